@@ -1,0 +1,14 @@
+/// Told before each leaf of parallel work: a refutation that is checked, or a duty that is tried.
+pub trait Gate {
+    fn enter(&self, leaf: u32);
+}
+
+/// The gate that lets all work pass.
+#[derive(Clone, Copy, Debug)]
+pub struct OpenGate;
+
+impl Gate for OpenGate {
+    fn enter(&self, leaf: u32) {
+        let _ = leaf;
+    }
+}

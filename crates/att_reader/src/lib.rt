@@ -1,0 +1,6 @@
+//! Reads functions from GNU AT&T text.
+#![tactic(auto)]
+
+mod refusal;
+
+pub use refusal::{ReadKind, ReadRefusal};

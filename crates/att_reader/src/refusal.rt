@@ -1,0 +1,20 @@
+/// Why a text was refused.
+#[derive(Clone, Copy, Debug, PartialEq, Eq)]
+pub enum ReadKind {
+    /// Memory was wanted and not found.
+    Memory,
+    /// The first line is not the label of the function, or the function's name is no name.
+    NoFunction,
+    /// The line has no instruction that is known, or follows a return.
+    UnknownInstruction,
+    /// The last line is no return.
+    FallsOff,
+}
+
+/// The first fault of a text and its line, counted from 1; lines above 2^32 - 1 are given as that, and
+/// `NoFunction` and `Memory` have line 0.
+#[derive(Clone, Copy, Debug, PartialEq, Eq)]
+pub struct ReadRefusal {
+    pub line: u32,
+    pub kind: ReadKind,
+}

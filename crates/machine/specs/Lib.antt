@@ -1,0 +1,3 @@
+pub mod Equivalent
+pub mod Machine
+pub mod Run

@@ -1,0 +1,6 @@
+//! The machine that runs functions, one step at a time.
+#![tactic(auto)]
+
+mod state;
+
+pub use state::{RunEnd, State, StepEnd};
