@@ -2,5 +2,8 @@ pub mod Causes
 pub mod Codes
 pub mod Files
 pub mod Firsts
+pub mod Reading
 pub mod Shelf
 pub mod Sink
+pub mod MemKinds
+pub mod SureKinds

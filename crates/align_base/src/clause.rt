@@ -1,11 +1,10 @@
 ghost use Rattle.std.specs.Prelude.{◌≡◌, List, map, IfOk};
 ghost use Rattle.std.specs.List.Sorted.{IsStrictlyIncreasing};
 
+use crate::word::Memory;
 use smallvec::SmallVec;
 use std::alloc::Global;
 use std::marker::Model;
-
-use crate::word::Memory;
 
 /// A variable, numbered from 1, or its negation. (`Default` serves the room that a clause keeps for
 /// literals that it does not have yet.)

@@ -4,17 +4,31 @@
 #![tactic(auto)]
 
 mod clause;
+mod files;
+mod folder_shelf;
 mod gate;
+mod mem_shelf;
+mod mem_sink;
 mod op;
+mod out_sink;
 mod shelf;
 mod sink;
 mod status;
+mod sure_shelf;
+mod sure_sink;
+mod whole;
 mod word;
 
 pub use clause::{Clause, Lit};
+pub use folder_shelf::FolderShelf;
 pub use gate::{Gate, OpenGate};
+pub use mem_shelf::MemShelf;
+pub use mem_sink::MemSink;
 pub use op::Op;
+pub use out_sink::OutSink;
 pub use shelf::{Call, PutFault, Shelf, TakeFault};
 pub use sink::{GiveFault, Sink};
 pub use status::{Side, Status};
+pub use sure_shelf::SureShelf;
+pub use sure_sink::SureSink;
 pub use word::{Memory, Word};

@@ -2,9 +2,8 @@ ghost use Rattle.std.specs.Prelude.{◌≡◌, ℕ, ◌≤◌, List, length, Opt
 ghost use Rattle.align_base.specs.Shelf.{Holding, Holds, IfLarge, OthersStay, PutCause, TakeCause};
 ghost use Rattle.align_base.specs.declared.shelf.Call.{Call};
 
-use std::alloc::Global;
-
 use crate::word::Word;
+use std::alloc::Global;
 
 /// A call of a shelf, with its name.
 #[derive(Drop)]

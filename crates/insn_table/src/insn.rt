@@ -8,7 +8,10 @@ use std::marker::Model;
 pub enum Operand {
     /// General register `n`, numbered as in rax, rcx, rdx, rbx, rsp, rbp, rsi, rdi, r8 to r15, of
     /// `w` bits.
-    Reg { n: u8, w: u32 },
+    Reg {
+        n: u8,
+        w: u32,
+    },
     /// An immediate, modulo 2^64.
     Imm(u64),
     /// Memory at the sum of base, scaled index and displacement, modulo 2^64.
@@ -19,7 +22,10 @@ pub enum Operand {
         disp: i32,
     },
     /// Vector register `n`, of `w` bits: 128 or 256.
-    Vec { n: u8, w: u32 },
+    Vec {
+        n: u8,
+        w: u32,
+    },
     /// The bytes of the function's pool of constants from here on.
     Pool(u32),
     /// The place of the instruction that a jump goes to.

@@ -1,7 +1,7 @@
 -- Two functions are equivalent within a bound, by the steps of each, over states of any kind.
 use Rattle.std.specs.Prelude.{◌≡◌, ◌≢◌, ℕ, ◌+◌, ◌*◌}
 use Rattle.machine.specs.Run.{Step, run_of, end_of}
-use Rattle.machine.specs.declared.state.RunEnd.TheVariants.{Returned, Faulted, Unset, Running}
+use Rattle.machine.specs.declared.state.RunEnd.TheVariants.{Returned, Faulted, Unset}
 
 -- From this state, where f returns or faults within n steps, g does the same within k * (n + 1), and f meets no unset flag.
 pub record Follows {S : Type 0} (k : ℕ) (f g : S → Step S) (s : S) : Type 0 where
@@ -14,4 +14,4 @@ pub record AreEquivalent {S : Type 0} (starts : S → Type 0) (same_end : S → 
   pub left : (s : S) → starts s → Follows k f g s
   pub right : (s : S) → starts s → Follows k g f s
   pub same : (s : S) → starts s → (n m i j : ℕ) → end_of f s n ≡ Returned i → end_of g s m ≡ Returned j
-    → same_end (run_of f s n).0 (run_of g s m).0
+      → same_end (run_of f s n).0 (run_of g s m).0

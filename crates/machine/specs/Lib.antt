@@ -1,3 +1,5 @@
 pub mod Equivalent
 pub mod Machine
 pub mod Run
+pub mod Stepping
+pub mod Straight

@@ -1,0 +1,69 @@
+//! A sink in memory whose calls fail by their numbers.
+ghost use Rattle.std.specs.Prelude.{◌≡◌, ◌≤◌, [], List, Some};
+ghost use Rattle.align_base.specs.Sink.{GiveTells};
+
+use crate::sink::{GiveFault, Sink};
+use std::alloc::Global;
+
+/// Keeps what it is given, and fails at chosen calls: those whose numbers are listed, counted from 1.
+/// It tells what it was given.
+#[derive(Drop)]
+pub struct MemSink {
+    text: Vec<u8>,
+    failing: Vec<u64>,
+    calls: u64,
+    faults: u64,
+}
+
+impl MemSink {
+    ghost use Rattle.align_base.specs.MemKinds.{sink_calls, sink_failing, sink_text};
+
+    /// An empty sink, of which the calls with these numbers fail.
+    pub fn new(alloc: Global, failing: Vec<u64>) -> MemSink
+        ensures text { sink_text result ≡ [] }
+        ensures failing { sink_failing result ≡ failing.items }
+        ensures calls { sink_calls result ≡ 0 }
+    {
+        MemSink {
+            text: Vec::new(alloc),
+            failing,
+            calls: 0,
+            faults: 0,
+        }
+    }
+
+    /// What it was given.
+    pub fn written(&self) -> &[u8]
+        ensures { result.now ≡ sink_text self.now }
+    {
+        self.text.as_slice()
+    }
+}
+
+impl Sink for MemSink {
+    ghost use Rattle.align_base.specs.MemKinds.{GiveFails, next_call, sink_calls, sink_failing, sink_text};
+
+    ghost written = { λ s. Some (sink_text s) };
+
+    ghost faults = { λ s. s.faults };
+
+    fn give(&mut self, bytes: &[u8]) -> Result<(), GiveFault>
+        ensures fails { GiveFails self.old result }
+        ensures counted { sink_calls self.new ≡ next_call (sink_calls self.old) }
+        ensures failing { sink_failing self.new ≡ sink_failing self.old }
+
+        // What every sink ensures.
+        ensures tells { GiveTells self.old.faults self.new.faults (Some (sink_text self.old)) (Some (sink_text self.new)) bytes.now result }
+        ensures later { self.old.faults ≤ self.new.faults }
+    {
+        self.calls = self.calls.saturating_add(1);
+        if self.failing.contains(&self.calls) {
+            self.faults = self.faults.saturating_add(1);
+            return Err(GiveFault::Failed);
+        }
+        match self.text.extend_from_slice(bytes) {
+            Ok(()) => Ok(()),
+            Err(_) => Err(GiveFault::Memory),
+        }
+    }
+}

@@ -1,0 +1,35 @@
+//! Standard output.
+ghost use Rattle.std.specs.Prelude.{None};
+
+use crate::sink::{GiveFault, Sink};
+use crate::whole::write_whole;
+use std::io;
+
+/// Standard output. A write that takes no byte is a fault. It tells nothing of what was given, and
+/// takes no memory.
+#[derive(Drop)]
+pub struct OutSink<'a, R: Print> {
+    rt: &'a R,
+    faults: u64,
+}
+
+impl<'a, R: Print> OutSink<'a, R> {
+    /// The standard output of this runtime.
+    pub fn new(rt: &'a R) -> OutSink<'a, R> {
+        OutSink { rt, faults: 0 }
+    }
+}
+
+impl<'a, R: Print> Sink for OutSink<'a, R> {
+    ghost written = { λ _. None };
+
+    ghost faults = { λ s. s.faults };
+
+    fn give(&mut self, bytes: &[u8]) -> Result<(), GiveFault> {
+        if write_whole(&mut io::writer(self.rt), bytes) {
+            return Ok(());
+        }
+        self.faults = self.faults.saturating_add(1);
+        Err(GiveFault::Failed)
+    }
+}

@@ -1,0 +1,70 @@
+//! A shelf in memory that never fails.
+ghost use Rattle.std.specs.Prelude.{◌≡◌, Option, Some, None, option_map};
+ghost use Rattle.align_base.specs.Files.{held_or_empty};
+
+use crate::files::{copied_within, first_held, put_first};
+use crate::shelf::{PutFault, Shelf, TakeFault};
+use crate::word::Word;
+use std::alloc::Global;
+
+/// Files in memory. It never fails: a name that no file has holds the empty file. It tells what it
+/// holds.
+#[derive(Drop)]
+pub struct SureShelf {
+    files: Vec<(Word, Vec<u8>)>,
+    seen: u64,
+}
+
+impl SureShelf {
+    ghost use Rattle.align_base.specs.SureKinds.{sure_files};
+
+    /// A shelf of these files. Of equal names the first file holds.
+    pub fn new(files: Vec<(Word, Vec<u8>)>) -> SureShelf
+        ensures { sure_files result ≡ files.items }
+    {
+        SureShelf { files, seen: 0 }
+    }
+
+    /// What the name holds. It is never `None`.
+    pub fn held(&self, name: &Word) -> Option<&[u8]>
+        ensures { option_map (λ bytes. bytes.now) result ≡ Some (held_or_empty (sure_files self.now) name.now) }
+    {
+        match first_held(self.files.as_slice(), name.bytes()) {
+            Some(bytes) => Some(bytes),
+            None => Some(&[]),
+        }
+    }
+}
+
+impl Shelf for SureShelf {
+    ghost use Rattle.align_base.specs.SureKinds.{sure_files};
+
+    ghost holding = { λ s. Some (λ name. Some (held_or_empty (sure_files s) name)) };
+
+    ghost faults = { λ _. 0 };
+
+    ghost seen = { λ s. s.seen };
+
+    ghost last_failed = { λ _. None };
+
+    fn take(&mut self, alloc: Global, name: &Word, limit: u64) -> Result<Vec<u8>, TakeFault> {
+        match first_held(self.files.as_slice(), name.bytes()) {
+            None => {
+                self.seen = 0;
+                Ok(Vec::new(alloc))
+            }
+            Some(bytes) => {
+                self.seen = bytes.len() as u64;
+                copied_within(alloc, bytes, limit)
+            }
+        }
+    }
+
+    fn put(&mut self, alloc: Global, name: &Word, bytes: &[u8]) -> Result<(), PutFault> {
+        let copy = match Word::new(alloc, name.bytes()) {
+            Ok(copy) => copy,
+            Err(_) => return Err(PutFault::Memory),
+        };
+        put_first(&mut self.files, alloc, copy, bytes)
+    }
+}
