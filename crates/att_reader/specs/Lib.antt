@@ -1,2 +1,4 @@
 pub mod PlainText
+pub mod Reading
+pub mod ReadingLines
 pub mod Refusals

@@ -93,6 +93,6 @@ pub record IsPlainText (text name : List ℕ) (f : Function) : Type 0 where
   pub named : f.name ≡ name
   pub count : length (lines text) ≡ length f.insns + 1
   pub each : (k : ℕ) (line : List ℕ) → slice_get (lines text) (k + 1) ≡ Some line
-    → (i : Insn) × (slice_get f.insns k ≡ Some i) × IsInsnText line (line_number (k + 2)) i
+      → (i : Insn) × (slice_get f.insns k ≡ Some i) × IsInsnText line (line_number (k + 2)) i
   pub some : 0 < length f.insns
   pub ends : (k : ℕ) (i : Insn) → slice_get f.insns k ≡ Some i → (i.op ≡ Ret) ↔ (k + 1 ≡ length f.insns)

@@ -32,7 +32,7 @@ abbrev pub IsUnknown : List Line → Line → ReadRefusal → Type 0
 IsUnknown before line e =
     (e ≡ refusal (line_number line.number) UnknownInstruction)
     × (((i : Insn) → IsInsnText line.text (line_number line.number) i → ⊥)
-      ⊎ (list_any (λ (l : Line). bytes_eq l.text (codes "ret")) before ≡ true))
+    ⊎ (list_any (λ (l : Line). bytes_eq l.text (codes "ret")) before ≡ true))
 
 -- at no greater line
 abbrev pub Precedes : ReadRefusal → ReadRefusal → Type 0
@@ -43,8 +43,8 @@ pub data IsRefused (text name : List ℕ) (e : ReadRefusal) : Type 0 where
   Missing : (IsLabelled text name → ⊥) → e ≡ refusal 0 NoFunction → IsRefused text name e
   Unknown : IsLabelled text name → IsFirst IsUnknown Precedes [] (body_of text) e → IsRefused text name e
   Open : IsLabelled text name → ((other : ReadRefusal) → HasFault IsUnknown [] (body_of text) other → ⊥)
-    → slice_get (lines text) (length (lines text) - 1) ≢ Some (codes "ret")
-    → e ≡ refusal (line_number (length (lines text))) FallsOff → IsRefused text name e
+      → slice_get (lines text) (length (lines text) - 1) ≢ Some (codes "ret")
+      → e ≡ refusal (line_number (length (lines text))) FallsOff → IsRefused text name e
 
 -- where memory was not found nothing is said but that the line is 0
 abbrev pub UnlessMemory : ReadKind → ℕ → Type 0 → Type 0

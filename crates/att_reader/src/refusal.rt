@@ -1,3 +1,9 @@
+ghost use Rattle.std.specs.Prelude.{◌≡◌};
+ghost use Rattle.att_reader.specs.declared.refusal.ReadKind.TheVariants.{Memory};
+
+use align_base::Memory;
+use std::alloc::AllocFailed;
+
 /// Why a text was refused.
 #[derive(Clone, Copy, Debug, PartialEq, Eq)]
 pub enum ReadKind {
@@ -17,4 +23,26 @@ pub enum ReadKind {
 pub struct ReadRefusal {
     pub line: u32,
     pub kind: ReadKind,
+}
+
+impl<T: Drop> From<AllocFailed<T>> for ReadRefusal {
+    ghost from_gives = { λ _ e. e ≡ record { line = 0; kind = Memory } };
+
+    fn from(_failed: AllocFailed<T>) -> ReadRefusal {
+        ReadRefusal {
+            line: 0,
+            kind: ReadKind::Memory,
+        }
+    }
+}
+
+impl From<Memory> for ReadRefusal {
+    ghost from_gives = { λ _ e. e ≡ record { line = 0; kind = Memory } };
+
+    fn from(_failed: Memory) -> ReadRefusal {
+        ReadRefusal {
+            line: 0,
+            kind: ReadKind::Memory,
+        }
+    }
 }

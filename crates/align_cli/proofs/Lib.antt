@@ -1,0 +1,8 @@
+pub mod PlainWords
+pub mod Products
+pub mod Tracking
+pub mod Lines
+pub mod Verdicts
+pub mod Taking
+pub mod NoForm
+pub mod Exact

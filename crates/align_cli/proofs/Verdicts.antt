@@ -1,0 +1,98 @@
+-- From sums to verdicts: plain functions whose sums agree are equivalent, and registers that tell the sums apart
+-- make a state from which the functions end differently.
+use Rattle.std.proofs.Common.{◌≡◌, inl, inr, ⊎_elim, ℕ, zero, suc, ◌*◌, ◌≤◌, List, length, set, replicate, get_or, refl, sym, ◌∙◌, max, slice_index, arith}
+use Rattle.std.proofs.Math.ListN.{length-set}
+use Rattle.insn_table.specs.Plain.{IsPlain}
+use Rattle.insn_table.specs.declared.insn.Insn.{Insn}
+use Rattle.machine.specs.Machine.{AreRegs, IsStart, Machine, start_at}
+use Rattle.machine.specs.Straight.{regs_through}
+use Rattle.machine.proofs.PlainLaws.{plain_end, plain_ends, plain_moves, plain_never_faults, plain-equivalent}
+use Rattle.align_cli.specs.declared.sums.Sum.{Sum}
+use Rattle.align_cli.specs.Headline.{AgreeFrom, IsShown, ReportsDifferent, ReportsEquivalent, ReturnsFrom}
+use Rattle.align_cli.specs.Report.{different_report, equivalent_report}
+use Rattle.align_cli.specs.Shown.{no_register, one_register}
+use Rattle.align_cli.specs.Sums.{LeavesInRax, TellsApart, sum_value}
+
+-- a function leaves the value of its sum
+leaves : (f : List Insn) (p : IsPlain f) (a : Sum) (regs : List ℕ) → LeavesInRax f a → AreRegs regs → slice_index (regs_through p.moves regs) 0 ≡ sum_value a regs
+leaves f p a regs h are = rw (plain_moves f p) (sym (h regs are))
+
+start_regs : (s : Machine) → IsStart s → AreRegs s.regs
+start_regs s start = rw start.entered start.regs
+
+pub sums_agree : (f g : List Insn) (a b : Sum) (bound : ℕ) (report : List ℕ) → IsPlain f → IsPlain g → LeavesInRax f a → LeavesInRax g b
+    → ((regs : List ℕ) → sum_value a regs ≡ sum_value b regs) → bound ≡ 2 * max (length f) (length g) → report ≡ equivalent_report bound
+    → ReportsEquivalent f g report
+sums_agree f g a b bound report p q left right same is told = record {
+  bound = bound;
+  bound_is = is;
+  equivalent = rw is (plain-equivalent f g p q (λ s start.
+      let are = start_regs s start in leaves f p a s.regs left are ∙ same s.regs ∙ sym (leaves g q b s.regs right are)));
+  left_never_faults = plain_never_faults f p;
+  right_never_faults = plain_never_faults g q;
+  report_is = told;
+}
+
+at_most_one : (k n j : ℕ) → get_or (set (replicate k 0) n 1) j 0 ≤ 1
+at_most_one zero n j = omega arith
+at_most_one (suc k) zero zero = omega arith
+at_most_one (suc k) zero (suc j) = none k j
+  where
+    none : (k j : ℕ) → get_or (replicate k 0) j 0 ≤ 1
+    none zero j = omega arith
+    none (suc k) zero = omega arith
+    none (suc k) (suc j) = none k j
+at_most_one (suc k) (suc n) zero = omega arith
+at_most_one (suc k) (suc n) (suc j) = at_most_one k n j
+
+-- registers that are shown are registers
+none_are : AreRegs no_register
+none_are = record { sixteen = refl; below = λ n. omega (arith, at_most_one 16 16 n) }
+
+one_are : (n : ℕ) → AreRegs (one_register n)
+one_are n = record { sixteen = length-set no_register n 1; below = λ j. omega (arith, at_most_one 16 n j) }
+
+start_from : (regs : List ℕ) → AreRegs regs → IsStart (start_at regs)
+start_from regs are = record { first = refl; entered = refl; regs = are }
+
+returns_from : (f : List Insn) (p : IsPlain f) (a : Sum) (regs : List ℕ) (value : ℕ) → LeavesInRax f a → AreRegs regs → value ≡ sum_value a regs → ReturnsFrom regs f value
+returns_from f p a regs value h are is = (plain_end p (start_at regs), plain_ends f p (start_at regs) (start_from regs are), leaves f p a regs h are ∙ sym is)
+
+agree_from : (f g : List Insn) (a b : Sum) (regs : List ℕ) → IsPlain f → IsPlain g → LeavesInRax f a → LeavesInRax g b → AreRegs regs
+    → sum_value a regs ≡ sum_value b regs → AgreeFrom regs f g
+agree_from f g a b regs p q left right are same = (sum_value a regs, returns_from f p a regs (sum_value a regs) left are refl, returns_from g q b regs (sum_value a regs) right are same)
+
+-- the shown registers, and that they are registers
+shown_regs : (f g : List Insn) (a b : Sum) (regs : List ℕ) → IsPlain f → IsPlain g → LeavesInRax f a → LeavesInRax g b → TellsApart a b regs
+    → AreRegs regs × IsShown f g regs
+shown_regs f g a b regs p q left right apart =
+    ⊎_elim {C = AreRegs regs × IsShown f g regs}
+    (λ none. (rw none none_are, inl none))
+    (λ one. (
+      rw one.2 (one_are one.0),
+      inr (
+        one.0,
+        one.1,
+        one.2,
+        agree_from f g a b no_register p q left right none_are one.3,
+        λ m h. agree_from f g a b (one_register m) p q left right (one_are m) (one.4 m h),
+      ),
+    ))
+    apart.1
+
+pub sums_differ : (f g : List Insn) (a b : Sum) (regs : List ℕ) (left_value right_value : ℕ) (report : List ℕ) → IsPlain f → IsPlain g
+    → LeavesInRax f a → LeavesInRax g b → TellsApart a b regs → left_value ≡ sum_value a regs → right_value ≡ sum_value b regs
+    → report ≡ different_report (length f) (length g) left_value right_value regs → ReportsDifferent f g report
+sums_differ f g a b regs left_value right_value report p q left right apart left_is right_is told =
+    let shown = shown_regs f g a b regs p q left right apart in
+    record {
+      regs = regs;
+      start = start_from regs shown.0;
+      shown = shown.1;
+      left_value = left_value;
+      left_returns = returns_from f p a regs left_value left shown.0 left_is;
+      right_value = right_value;
+      right_returns = returns_from g q b regs right_value right shown.0 right_is;
+      differ = λ e. apart.0 (sym left_is ∙ e ∙ right_is);
+      report_is = told;
+    }

@@ -1,0 +1,13 @@
+use Rattle.std.proofs.Common.{rules}
+use Rattle.align_cli.proofs.Verdicts.{sums_agree, sums_differ}
+use Rattle.align_cli.proofs.decide.compared.Goals as goal
+
+pub returns-in_ok-equivalent-in-None : goal.returns-in_ok-equivalent-in-None
+returns-in_ok-equivalent-in-None c =
+    sums_agree _ _ c.rax_sum-left_sum.result c.rax_sum-right_sum.result _ _ c.requires.left_plain c.requires.right_plain
+    (rw c.as_slice.ensures at c.rax_sum-left_sum.ensures) (rw c.as_slice-2.ensures at c.rax_sum-right_sum.ensures) (search rules) (search rules) c.in_ok-equivalent-in-None.ensures
+
+pub returns-in_ok-different-in-Some : goal.returns-in_ok-different-in-Some
+returns-in_ok-different-in-Some c =
+    sums_differ _ _ c.rax_sum-left_sum.result c.rax_sum-right_sum.result c.in-Some.regs c.value.result c.value-in-Some.result _ c.requires.left_plain c.requires.right_plain
+    (rw c.as_slice.ensures at c.rax_sum-left_sum.ensures) (rw c.as_slice-2.ensures at c.rax_sum-right_sum.ensures) c.in-Some.ensures.some c.value.ensures c.value-in-Some.ensures (search rules)

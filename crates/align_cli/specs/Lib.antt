@@ -1,0 +1,9 @@
+pub mod Decide
+pub mod Form
+pub mod Headline
+pub mod Report
+pub mod Shown
+pub mod Sums
+pub mod Top
+pub mod View
+pub mod Words

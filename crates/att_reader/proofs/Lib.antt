@@ -1,0 +1,10 @@
+pub mod Pieces
+pub mod TextLines
+pub mod LoopSteps
+pub mod Decimals
+pub mod Operands
+pub mod Statements
+pub mod LineFaults
+pub mod PlainTexts
+pub mod SoundInsns
+pub mod WholeTexts
