@@ -24,7 +24,7 @@ pub use folder_shelf::FolderShelf;
 pub use gate::{Gate, OpenGate};
 pub use mem_shelf::MemShelf;
 pub use mem_sink::MemSink;
-pub use op::Op;
+pub use op::{Cond, Flags, Op};
 pub use out_sink::OutSink;
 pub use shelf::{Call, PutFault, Shelf, TakeFault};
 pub use sink::{GiveFault, Sink};

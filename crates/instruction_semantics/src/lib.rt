@@ -1,0 +1,3 @@
+//! What the general instructions of x86-64 compute: words, expressions over them, and the rows of the
+//! instruction table. Definitions alone, in `specs/`, and their first laws.
+#![tactic(auto)]
