@@ -96,7 +96,7 @@ fn computed(op: Op, old: &Sum, source: &Sum) -> Sum
         Op::Mov => *source,
         Op::Add => old.plus_times(source, 1),
         Op::Sub => old.plus_times(source, u64::MAX),
-        Op::Ret => *old,
+        _ => *old,
     }
 }
 

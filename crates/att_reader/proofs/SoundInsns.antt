@@ -57,7 +57,7 @@ has-row : (op : Op) (i : Insn) (source target : Operand) → IsMoveOp op → IsM
 has-row Mov i source target moves m = (source, target, m)
 has-row Add i source target moves m = (source, target, m)
 has-row Sub i source target moves m = (source, target, m)
-has-row Ret i source target moves m = absurd moves
+has-row _ i source target moves m = absurd moves
 
 insn-sound : (i : Insn) → IsPlainInsn i → IsSound i
 insn-sound i (inl m) = has-row i.op i m.source m.target m.op m.move

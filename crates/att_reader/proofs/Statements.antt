@@ -50,13 +50,13 @@ unfolding operation_of
 operation-only Mov moves = refl
 operation-only Add moves = refl
 operation-only Sub moves = refl
-operation-only Ret moves = absurd moves
+operation-only _ moves = absurd moves
 
 word-lacks : (op : Op) → list_all (λ b. not (eqb b 32)) (mnemonic op) ≡ true
 word-lacks Mov = refl
 word-lacks Add = refl
 word-lacks Sub = refl
-word-lacks Ret = refl
+word-lacks _ = refl
 
 joined : (word source target : List ℕ) → word ++ codes " " ++ source ++ codes "," ++ target ≡ word ++ 32 ∷ (source ++ 44 ∷ target)
 joined word source target =
@@ -135,7 +135,7 @@ move-no_return : (op : Op) (rest : List ℕ) → IsMoveOp op → bytes_eq (mnemo
 move-no_return Mov rest moves = refl
 move-no_return Add rest moves = refl
 move-no_return Sub rest moves = refl
-move-no_return Ret rest moves = absurd moves
+move-no_return _ rest moves = absurd moves
 
 -- a move is not spelled as a return is
 pub move-differs : (text : List ℕ) (line : ℕ) (i : Insn) → IsMoveText text line i → bytes_eq text (codes "ret") ≡ false
@@ -157,7 +157,7 @@ pub moves-not : (op : Op) → IsMoveOp op → op ≡ Ret → ⊥
 moves-not Mov moves e = cc
 moves-not Add moves e = cc
 moves-not Sub moves e = cc
-moves-not Ret moves e = moves
+moves-not _ moves e = absurd moves
 
 -- an instruction returns where its line is `ret`
 pub returns-known : (text : List ℕ) (line : ℕ) (i : Insn) → IsInsnText text line i → i.op ≡ Ret → bytes_eq text (codes "ret") ≡ true

@@ -53,6 +53,8 @@ mnemonic Mov = codes "movq"
 mnemonic Add = codes "addq"
 mnemonic Sub = codes "subq"
 mnemonic Ret = codes "ret"
+-- the others are in no plain text
+mnemonic _ = []
 
 -- the 64-bit instruction with these operands on this line
 abbrev pub insn_of : Op → List Operand → ℕ → Insn

@@ -22,7 +22,7 @@ abbrev pub IsMoveOp : Op → Type 0
 IsMoveOp Mov = Unit {0}
 IsMoveOp Add = Unit {0}
 IsMoveOp Sub = Unit {0}
-IsMoveOp Ret = ⊥
+IsMoveOp _ = ⊥
 
 -- a move, sum or difference that neither reads nor writes the stack pointer
 pub record IsPlainMove (i : Insn) : Type 0 where

@@ -51,6 +51,7 @@ HasRow Mov i = (source target : Operand) × IsMoveOf i source target
 HasRow Add i = (source target : Operand) × IsMoveOf i source target
 HasRow Sub i = (source target : Operand) × IsMoveOf i source target
 HasRow Ret i = IsReturn i
+HasRow _ i = ⊥
 
 -- an instruction of the table
 abbrev pub IsSound : Insn → Type 0

@@ -8,11 +8,11 @@ use Rattle.insn_table.specs.declared.insn.Insn.{Insn}
 use Rattle.insn_table.specs.Plain.{IsPlain, IsPlainMove, IsMoveOp}
 use Rattle.insn_table.specs.Sound.{HasRow, IsClosed, IsMoveOf, IsReturn, IsSound}
 
-has_row : (o : Op) (i : Insn) (source target : Operand) → o ≢ Ret → IsMoveOf i source target → HasRow o i
+has_row : (o : Op) (i : Insn) (source target : Operand) → IsMoveOp o → IsMoveOf i source target → HasRow o i
 has_row Mov i source target h m = (source, target, m)
 has_row Add i source target h m = (source, target, m)
 has_row Sub i source target h m = (source, target, m)
-has_row Ret i source target h m = absurd (h refl)
+has_row _ i source target h m = absurd h
 
 sound_at : (moves : List Insn) (last : Insn) (k : ℕ) (i : Insn) → AllByRecursion IsSound moves → IsSound last → slice_get (moves ++ last ∷ []) k ≡ Some i → IsSound i
 sound_at [] last zero i each end h = let same : last ≡ i = cc in subst IsSound same end
@@ -41,7 +41,7 @@ closed_by moves last each returns few =
 plain_sound : (moves : List Insn) → AllByRecursion IsPlainMove moves → AllByRecursion IsSound moves
 plain_sound [] each = tt
 plain_sound (m ∷ ms) each =
-    (has_row m.op m each.0.source each.0.target (λ e. subst IsMoveOp e each.0.op) each.0.move, plain_sound ms each.1)
+    (has_row m.op m each.0.source each.0.target each.0.op each.0.move, plain_sound ms each.1)
 
 -- a plain function can be run
 pub plain_closed : (insns : List Insn) → IsPlain insns → length insns < 2 ^ 32 → IsClosed insns

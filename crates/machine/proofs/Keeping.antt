@@ -30,7 +30,7 @@ computed-below : (o : Op) (old value : ℕ) → old < 2 ^ 64 → value < 2 ^ 64 
 computed-below Mov old value h k = k
 computed-below Add old value h k = omega arith
 computed-below Sub old value h k = omega arith
-computed-below Ret old value h k = h
+computed-below _ old value h k = h
 
 set-below : (regs : List ℕ) (r v n : ℕ) → r < length regs → v < 2 ^ 64 → slice_index regs n < 2 ^ 64 → slice_index (slice_set regs r v) n < 2 ^ 64
 set-below regs r v n within small h = grind (arith, common_steps)

@@ -12,10 +12,8 @@ use Rattle.machine.specs.Stepping.{StepsAs}
 use Rattle.machine.specs.declared.state.StepEnd.TheVariants as ends
 
 op-goes : (o : Op) (i : Insn) (s : Machine) → o ≢ Ret → tested (op_allows o s) (executed o i s) ≡ Goes (advanced i s)
-op-goes Mov i s h = refl
-op-goes Add i s h = refl
-op-goes Sub i s h = refl
 op-goes Ret i s h = absurd (h refl)
+op-goes _ i s h = refl
 
 -- the step at a known instruction
 pub step_at : (insns : List Insn) (s : Machine) (i : Insn) → slice_get insns s.place ≡ Some i
@@ -31,6 +29,7 @@ op-moves Mov i h row = row
 op-moves Add i h row = row
 op-moves Sub i h row = row
 op-moves Ret i h row = absurd (h refl)
+op-moves _ i h row = absurd row
 
 -- what is no return is a move
 pub move_at : (insns : List Insn) (k : ℕ) (d : Insn) → IsClosed insns → k < length insns → (slice_index_or insns k d).op ≢ Ret

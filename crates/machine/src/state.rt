@@ -83,7 +83,7 @@ fn execute(regs: &mut [u64; 16], insn: &Insn)
             Op::Mov => value,
             Op::Add => old.wrapping_add(value),
             Op::Sub => old.wrapping_sub(value),
-            Op::Ret => old,
+            _ => old,
         };
     }
 }
