@@ -1,0 +1,162 @@
+//! One case of the table, and whether `lane_ops` agrees with it.
+ghost use Rattle.std.specs.Prelude.{◌<◌, ◌^◌, IsTrue};
+ghost use Rattle.instruction_semantics.specs.Rows.{Computes};
+
+use align_base::{Flags, Op};
+use lane_ops::{flags, holds, scalar};
+
+use crate::ops::{cond_of, op_of};
+
+/// A line of the table.
+pub enum Case {
+    /// An operation by its number, its width, destination, source, the flags before, and what the
+    /// processor answered: the result and each flag, 2 where it is unset.
+    Row {
+        op: usize,
+        w: u32,
+        a: u64,
+        b: u64,
+        before: u64,
+        value: u64,
+        after: [u64; 5],
+    },
+    /// A condition by its number, the flags, and whether it holds.
+    Condition { cond: u64, flags: u64, holds: u64 },
+    /// A line that is none of these.
+    Unreadable,
+}
+
+/// Whether `lane_ops` agrees.
+pub enum Verdict {
+    Right,
+    Wrong,
+}
+
+/// Flags by their bits: carry, parity, zero, sign, overflow, the lowest first.
+fn flags_of(bits: u64) -> Flags {
+    Flags {
+        cf: Some(bits & 1 != 0),
+        pf: Some(bits & 2 != 0),
+        zf: Some(bits & 4 != 0),
+        sf: Some(bits & 8 != 0),
+        of: Some(bits & 16 != 0),
+    }
+}
+
+/// 0 or 1, or 2 for a flag that is unset.
+fn code(flag: Option<bool>) -> u64 {
+    match flag {
+        Some(false) => 0,
+        Some(true) => 1,
+        None => 2,
+    }
+}
+
+/// Whether it is a word of `w` bits.
+fn is_word(w: u32, a: u64) -> bool
+    ensures { IsTrue result → a < 2 ^ w }
+{
+    w >= 64 || a < 1u64 << w
+}
+
+/// Whether the row computes something of these operands.
+fn can_compute(op: Op, w: u32, a: u64, b: u64) -> bool
+    ensures { IsTrue result → Computes op w a b }
+{
+    if w == 0 || w > 64 {
+        return false;
+    }
+    match op {
+        Op::Shl | Op::Shr | Op::Sar => is_word(w, a) && 0 < b && b < u64::from(w),
+        Op::Lea => true,
+        Op::Movzx(m) | Op::Movsx(m) => 0 < m && m < w && is_word(m, b),
+        Op::Cltq => w == 64 && is_word(32, b),
+        Op::Cmov(_) | Op::Set(_) | Op::Jump(_) | Op::Jmp | Op::Push | Op::Pop | Op::Ret | Op::Nop
+        | Op::Endbr64 => false,
+        _ => is_word(w, a) && is_word(w, b),
+    }
+}
+
+/// The numbers of a line, up to twelve, and how many there are.
+fn numbers(line: &str) -> ([u64; 12], usize) {
+    let mut all = [0; 12];
+    let mut count = 0;
+    for word in line.split(' ') {
+        if count == 12 {
+            break;
+        }
+        all[count] = word.parse::<u64>().unwrap_or(u64::MAX);
+        count += 1;
+    }
+    (all, count)
+}
+
+impl Case {
+    /// The case of a line.
+    pub fn read(line: &str) -> Case {
+        let (n, count) = numbers(line);
+        if count == 12 && n[0] == 0 && n[1] < 24 && n[2] < 65 {
+            return Case::Row {
+                op: n[1] as usize,
+                w: n[2] as u32,
+                a: n[3],
+                b: n[4],
+                before: n[5],
+                value: n[6],
+                after: [n[7], n[8], n[9], n[10], n[11]],
+            };
+        }
+        if count == 4 && n[0] == 1 {
+            return Case::Condition {
+                cond: n[1],
+                flags: n[2],
+                holds: n[3],
+            };
+        }
+        Case::Unreadable
+    }
+
+    /// Whether `lane_ops` agrees with it. A line that cannot be read is wrong.
+    pub fn verdict(&self) -> Verdict {
+        let right = match self {
+            Case::Unreadable => false,
+            Case::Condition {
+                cond,
+                flags,
+                holds: wanted,
+            } => match cond_of(*cond) {
+                None => false,
+                Some(cond) => code(holds(cond, &flags_of(*flags))) == *wanted,
+            },
+            Case::Row {
+                op,
+                w,
+                a,
+                b,
+                before,
+                value,
+                after,
+            } => match op_of(*op as u64) {
+                None => false,
+                Some(op) => is_right(op, *w, *a, *b, *before, *value, after),
+            },
+        };
+        if right { Verdict::Right } else { Verdict::Wrong }
+    }
+}
+
+/// Whether the result and each flag are those of the processor.
+fn is_right(op: Op, w: u32, a: u64, b: u64, before: u64, value: u64, after: &[u64; 5]) -> bool {
+    if !can_compute(op, w, a, b) || scalar(op, w, a, b) != value {
+        return false;
+    }
+    let found = flags(op, w, a, b, flags_of(before));
+    let found = [
+        code(found.cf),
+        code(found.pf),
+        code(found.zf),
+        code(found.sf),
+        code(found.of),
+    ];
+    found == *after
+}
