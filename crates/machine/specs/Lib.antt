@@ -1,5 +1,10 @@
+pub mod Access
 pub mod Equivalent
+pub mod Kept
 pub mod Machine
+pub mod Memory
+pub mod Operands
+pub mod Path
 pub mod Run
-pub mod Stepping
+pub mod Step
 pub mod Straight
