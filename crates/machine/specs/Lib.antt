@@ -7,4 +7,5 @@ pub mod Operands
 pub mod Path
 pub mod Run
 pub mod Step
+pub mod Stepping
 pub mod Straight
