@@ -14,7 +14,7 @@ use Rattle.machine.specs.Machine.{AreRegs}
 use Rattle.machine.specs.Operands.{operand}
 use Rattle.machine.specs.Straight.{computed, regs_after, regs_through, value_at, written}
 
-signed-below : (v : ℕ) → IsSignedWord v → v < 2 ^ 64
+pub signed-below : (v : ℕ) → IsSignedWord v → v < 2 ^ 64
 signed-below v (inl small) = omega arith
 signed-below v (inr large) = large.1
 

@@ -1,5 +1,6 @@
 pub mod Access
 pub mod Equivalent
+pub mod Frame
 pub mod Kept
 pub mod Machine
 pub mod Memory
