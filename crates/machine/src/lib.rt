@@ -1,6 +1,8 @@
-//! The machine that runs functions, one step at a time.
+//! The machine that runs functions, one step at a time, and laws of runs and steps.
 #![tactic(auto)]
 
+mod laws;
 mod state;
 
+pub use laws::{plain_functions_agree, plain_functions_return};
 pub use state::{Region, RunEnd, Span, StepEnd};
