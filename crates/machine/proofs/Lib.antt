@@ -1,6 +1,8 @@
 pub mod Closing
+pub mod Frames
 pub mod Keeping
 pub mod Moves
+pub mod Paths
 pub mod PlainLaws
 pub mod PlainRuns
 pub mod Returning

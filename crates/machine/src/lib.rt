@@ -4,5 +4,5 @@
 mod laws;
 mod state;
 
-pub use laws::{plain_functions_agree, plain_functions_return};
+pub use laws::{path_law, plain_functions_agree, plain_functions_return};
 pub use state::{Region, RunEnd, Span, StepEnd};
