@@ -11,7 +11,7 @@ use Rattle.insn_table.specs.declared.insn.Operand.TheVariants.{Reg, Imm, Mem, Ve
 use Rattle.instruction_semantics.specs.Conditions.{cond_of}
 use Rattle.instruction_semantics.specs.Words.{bit}
 use Rattle.machine.specs.Access.{Access, access_at, access_of, accesses_by, allows_by, arity, holds_access, is_allowed, is_nothing, is_on_stack, source_width, stack_pointer, writes}
-use Rattle.machine.specs.Frame.{AreTested, IsTested, IsWritable, SameFrame, SameUnwritable, has_address, is_memory, is_writable}
+use Rattle.machine.specs.Frame.{AreTested, IsTested, IsWritable, SameFrame, SameUnwritable, has_address, is_addressed, is_writable}
 use Rattle.machine.specs.Machine.{Machine, offset_from, stack_base}
 use Rattle.machine.specs.Memory.{with_word}
 use Rattle.machine.specs.Operands.{effective, operand, with_value}
@@ -142,7 +142,7 @@ write-kept w s (Pool n) word h = λ x. inl refl
 write-kept w s (Target n) word h = λ x. inl refl
 write-kept w s Nothing word h = λ x. inl refl
 
-no-access : (s : Machine) (w : ℕ) (o : Operand) → is_memory o ≡ false → list_all (is_allowed s) (access_of s o w true) ≡ true
+no-access : (s : Machine) (w : ℕ) (o : Operand) → is_addressed o ≡ false → list_all (is_allowed s) (access_of s o w true) ≡ true
 no-access s w (Mem base index scale disp) h = absurd (cc)
 no-access s w (Reg n width) h = refl
 no-access s w (Imm v) h = refl
@@ -151,14 +151,14 @@ no-access s w (Pool n) h = refl
 no-access s w (Target n) h = refl
 no-access s w Nothing h = refl
 
-nothing-in_memory : (o : Operand) → is_nothing o ≡ true → is_memory o ≡ false
-nothing-in_memory (Mem base index scale disp) h = absurd (cc)
-nothing-in_memory (Reg n width) h = refl
-nothing-in_memory (Imm v) h = refl
-nothing-in_memory (Vec n width) h = refl
-nothing-in_memory (Pool n) h = refl
-nothing-in_memory (Target n) h = refl
-nothing-in_memory Nothing h = refl
+nothing_addressed : (o : Operand) → is_nothing o ≡ true → is_addressed o ≡ false
+nothing_addressed (Mem base index scale disp) h = absurd (cc)
+nothing_addressed (Reg n width) h = refl
+nothing_addressed (Imm v) h = refl
+nothing_addressed (Vec n width) h = refl
+nothing_addressed (Pool n) h = refl
+nothing_addressed (Target n) h = refl
+nothing_addressed Nothing h = refl
 
 -- the access of operand k of so many, where the operation writes
 abbrev access_with : Insn → Machine → ℕ → ℕ → Bool → List Access
@@ -174,7 +174,7 @@ last-allowed : (i : Insn) (s : Machine) (first second third : Bool) → is_nothi
     → list_all (is_allowed s) (access_with i s 1 (count_of first second third) true) ≡ true
     → list_all (is_allowed s) (access_with i s 2 (count_of first second third) true) ≡ true
     → list_all (is_allowed s) (access_of s (operand i (count_of first second third - 1)) i.w true) ≡ true
-last-allowed i s true second third none a b c = no-access s i.w (operand i 0) (nothing-in_memory (operand i 0) none)
+last-allowed i s true second third none a b c = no-access s i.w (operand i 0) (nothing_addressed (operand i 0) none)
 last-allowed i s false true third none a b c = a
 last-allowed i s false false true none a b c = b
 last-allowed i s false false false none a b c = c
@@ -195,7 +195,7 @@ written-allowed i s writing h =
     in
     last-allowed i s (is_nothing (operand i 0)) (is_nothing (operand i 1)) (is_nothing (operand i 2)) refl (with_k 0 each.0) (with_k 1 each.1) (with_k 2 each.2)
 
-target-allowed : (o : Op) (i : Insn) (s : Machine) → writes i.op ≡ true → (o ≡ ops.Lea → is_memory (target_of ops.Lea i) ≡ false)
+target-allowed : (o : Op) (i : Insn) (s : Machine) → writes i.op ≡ true → (o ≡ ops.Lea → is_addressed (target_of ops.Lea i) ≡ false)
     → list_all (is_allowed s) (accesses_by o i s) ≡ true → list_all (is_allowed s) (access_of s (target_of o i) i.w true) ≡ true
 target-allowed ops.Cltq i s writing lea h = refl
 target-allowed ops.Lea i s writing lea h = no-access s i.w (target_of ops.Lea i) (lea refl)

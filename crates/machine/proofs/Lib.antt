@@ -1,3 +1,4 @@
+mod Cases
 pub mod Closing
 pub mod Frames
 pub mod Keeping

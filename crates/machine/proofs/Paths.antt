@@ -1,10 +1,10 @@
 -- Paths over states of any kind: what a way says of the run, and what the tests make of a way of the free step.
 use Rattle.std.proofs.Common.{◌≡◌, ℕ, suc, ◌+◌, ◌==◌, ◌≤◌, Bool, true, false, ◌&&◌, List, [], ◌∷◌, length, Option, None, Some, if◌then◌else◌, refl, sym, ◌∙◌, ap, eqb-true, arith}
-use Rattle.machine.specs.Path.{Arrived, Way, Through, Back, Fell, Off, allowed_after, allowed_along, by_test, rested, returned_at, walked, way}
-use Rattle.machine.specs.Run.{Step, Goes, Returns, Faults, MeetsUnset, Run, ended_by, run_of}
+use Rattle.machine.specs.Path.{Arrived, FallsWithin, Way, Through, Back, Fell, Off, allowed_after, allowed_along, by_test, rested, returned_at, walked, way}
+use Rattle.machine.specs.Run.{Step, Goes, Returns, Faults, MeetsUnset, Run, ended_by, later, run_of}
 use Rattle.machine.specs.Step.{closed, tested}
 use Rattle.machine.specs.declared.state.RunEnd.TheVariants.{Returned, Faulted, Running}
-use Rattle.machine.proofs.Runs.{faulted_stays, later, run-goes}
+use Rattle.machine.proofs.Runs.{faulted_stays, run-goes}
 
 -- A way that begins at its first place, and one that begins elsewhere, which is off.
 at_first : {S : Type 0} (b : Bool) (w v : Way S) → (if b then w else Off) ≡ v → (v ≡ Off → ⊥) → (b ≡ true) × (w ≡ v)
@@ -56,12 +56,6 @@ pub way-falls : {S : Type 0} (place : S → ℕ) (allows : S → Bool) (free : S
     → way place (closed allows free) path next s ≡ Fell
 way-falls place allows free path next s h fails =
     way-closed place allows free path next s h ∙ ap (λ (b : Bool). by_test b (way place free path next s)) fails
-
--- a run that fell within n steps
-pub record FallsWithin {S : Type 0} (step : S → Step S) (s : S) (n : ℕ) : Type 0 where
-  pub at : S
-  pub number : ℕ
-  pub run : run_of step s n ≡ (at, Faulted number)
 
 fell-walked : {S : Type 0} (step : S → Step S) (p : Step S) (s : S) (ps : List ℕ) (next : Option ℕ) (rest : S → Way S)
     → ((t : S) → rest t ≡ Fell → FallsWithin step t (length ps)) → step s ≡ p → walked p s ps next rest ≡ Fell

@@ -1,17 +1,10 @@
 -- Runs over states of any kind: a run that is over stays, and two runs of one start have one end.
 use Rattle.std.proofs.Common.{◌≡◌, ℕ, zero, suc, ◌+◌, ◌-◌, ◌<◌, ◌≤◌, refl, sym, ◌∙◌, ap, subst, add-zero, add-suc, add-one, add_comm, arith}
-use Rattle.machine.specs.Run.{Step, Goes, Returns, Faults, MeetsUnset, Run, run_of, stepped, ended_by, end_of}
+use Rattle.machine.specs.Run.{Step, Goes, Returns, Faults, MeetsUnset, IsOver, Run, end_of, ended_by, later, run_of, stepped}
 use Rattle.machine.specs.Stepping.{StepsAs}
 use Rattle.machine.specs.declared.state.RunEnd.{RunEnd}
 use Rattle.machine.specs.declared.state.RunEnd.TheVariants.{Returned, Faulted, Unset, Running}
 use Rattle.machine.specs.declared.state.StepEnd.TheVariants as ends
-
--- the run has ended
-abbrev pub IsOver : RunEnd → Type 0
-IsOver (Returned i) = Unit {0}
-IsOver (Faulted i) = Unit {0}
-IsOver (Unset i) = Unit {0}
-IsOver Running = ⊥
 
 over_stays : {S : Type 0} (step : S → Step S) (t : S) (n : ℕ) (e : RunEnd) → IsOver e → stepped step n (t, e) ≡ (t, e)
 over_stays step t n (Returned i) over = refl
@@ -94,13 +87,6 @@ pub run-faulted : {S : Type 0} (step : S → Step S) (s t u : S) (i n : ℕ) →
     → run_of step s n ≡ (u, Faulted (i + 1))
 run-faulted step s t u i n h k lt =
     rw add-one (run-ended step s t u (Faulted (suc i)) Faults i n tt refl h (step-fault (step t) t u k) lt)
-
--- a run that begins l steps later
-abbrev pub later : {S : Type 0} → ℕ → Run S → Run S
-later l (s, Returned i) = (s, Returned (l + i))
-later l (s, Faulted i) = (s, Faulted (l + i))
-later l (s, Unset i) = (s, Unset (l + i))
-later l (s, Running) = (s, Running)
 
 ended-later : {S : Type 0} (s : S) (l n : ℕ) (p : Step S) → ended_by s (suc (l + n)) p ≡ later l (ended_by s (suc n) p)
 ended-later s l n (Goes next) = refl

@@ -32,13 +32,14 @@ IsWritable s at = is_writable s at ≡ true
 abbrev pub SameUnwritable : Machine → Machine → Type 0
 SameUnwritable s t = (at : ℕ) → (t.memory at ≡ s.memory at) ⊎ IsWritable s at
 
-abbrev pub is_memory : Operand → Bool
-is_memory (Mem base index scale disp) = true
-is_memory _ = false
+-- memory at an address that registers make
+abbrev pub is_addressed : Operand → Bool
+is_addressed (Mem base index scale disp) = true
+is_addressed _ = false
 
 -- What the instruction writes is tested. `lea` makes no access, so its target is no memory.
 abbrev pub IsTested : Insn → Type 0
-IsTested i = i.op ≡ Lea → is_memory (target_of Lea i) ≡ false
+IsTested i = i.op ≡ Lea → is_addressed (target_of Lea i) ≡ false
 
 abbrev pub AreTested : List Insn → Type 0
 AreTested insns = (k : ℕ) (i : Insn) → slice_get insns k ≡ Some i → IsTested i

@@ -4,5 +4,7 @@
 mod laws;
 mod state;
 
-pub use laws::{path_law, plain_functions_agree, plain_functions_return};
+pub use laws::{
+    path_law, plain_functions_agree, plain_functions_return, run_law, step_frame_law, way_law,
+};
 pub use state::{Region, RunEnd, Span, StepEnd};
