@@ -1,5 +1,5 @@
 -- What a step leaves as it was, and what a run does.
-use Rattle.std.proofs.Common.{◌≡◌, ◌⊎◌, inl, inr, ℕ, ◌+◌, ◌-◌, ◌/◌, ◌%◌, ◌^◌, ◌*◌, ◌==◌, ◌<◌, ◌≤◌, Bool, true, false, not, ◌&&◌, ◌||◌, nat_le, nat_lt, List, [], ◌∷◌, ◌++◌, slice_get, slice_index, Option, None, Some, if◌then◌else◌, refl, sym, ◌∙◌, ap, subst, arith}
+use Rattle.std.proofs.Common.{◌≡◌, ◌⊎◌, inl, inr, ℕ, ◌+◌, ◌-◌, ◌/◌, ◌%◌, ◌^◌, ◌==◌, ◌<◌, ◌≤◌, Bool, true, false, not, ◌&&◌, ◌||◌, nat_le, nat_lt, List, [], ◌∷◌, ◌++◌, slice_get, slice_index, Option, None, Some, if◌then◌else◌, refl, sym, ◌∙◌, subst, arith}
 use Rattle.std.specs.List.{list_all, list_any}
 use Rattle.std.proofs.lemmas.Bool.{and_from, and_parts, lt-ltb, ltb-false, ltb-true, not-true, or_cases, or_left, or_right}
 use Rattle.std.proofs.lemmas.List.Folds.{list_all-append}
@@ -16,7 +16,7 @@ use Rattle.machine.specs.Machine.{Machine, offset_from, stack_base}
 use Rattle.machine.specs.Memory.{with_word}
 use Rattle.machine.specs.Operands.{effective, operand, with_value}
 use Rattle.machine.specs.Run.{Step, Goes, Returns, Faults, MeetsUnset, run_of}
-use Rattle.machine.specs.Step.{after_row, allows_at, conditional, free_at, free_by, register_number, result_of, step_of, target_of, tested, with_result}
+use Rattle.machine.specs.Step.{after_row, allows_at, conditional, free_at, free_by, register_number, result_of, step_of, target_of, tested}
 use Rattle.machine.specs.declared.state.Region.{Region}
 use Rattle.machine.proofs.Runs.{run_keeps}
 
@@ -108,12 +108,12 @@ region-writable : (rs : List Region) (at n x : ℕ) → at ≤ 2 ^ 64
 region-writable [] at n x below h k = h
 region-writable (r ∷ rs) at n x below h k =
     elim (or_cases (r.write && holds_access r (written_from at n)) (list_any (λ q. (not true || q.write) && holds_access q (written_from at n)) rs) h) [
-      inl here ↦
-        let parts = and_parts r.write (holds_access r (written_from at n)) here in
-        or_left (r.write && has_address x r) (list_any (λ q. q.write && has_address x q) rs)
-        (and_from r.write (has_address x r) parts.0 (tests-inside (2 ^ 64 - r.base) at n r.len x below parts.1 k))
+      | inl here ↦
+          let parts = and_parts r.write (holds_access r (written_from at n)) here in
+          or_left (r.write && has_address x r) (list_any (λ q. q.write && has_address x q) rs)
+          (and_from r.write (has_address x r) parts.0 (tests-inside (2 ^ 64 - r.base) at n r.len x below parts.1 k))
       | inr there ↦
-        or_right (r.write && has_address x r) (list_any (λ q. q.write && has_address x q) rs) (region-writable rs at n x below there k)
+          or_right (r.write && has_address x r) (list_any (λ q. q.write && has_address x q) rs) (region-writable rs at n x below there k)
     ]
 
 byte-kept : (b : Bool) (new old : ℕ) (P : Type 0) → (b ≡ true → P) → ((if b then new else old) ≡ old) ⊎ P
@@ -133,8 +133,8 @@ write-kept w s (Mem base index scale disp) word h = λ x.
     let holds = (and_parts (is_allowed s (written_from at (w / 8))) true h).0 in
     word-kept s at (w / 8) word x
     (λ k.
-      or_left (list_any (λ r. r.write && has_address x r) s.regions) (nat_lt (offset_from (stack_base s) x) s.stack)
-      (region-writable s.regions at (w / 8) x below holds k))
+    or_left (list_any (λ r. r.write && has_address x r) s.regions) (nat_lt (offset_from (stack_base s) x) s.stack)
+    (region-writable s.regions at (w / 8) x below holds k))
 write-kept w s (Reg n width) word h = λ x. inl refl
 write-kept w s (Imm v) word h = λ x. inl refl
 write-kept w s (Vec n width) word h = λ x. inl refl
@@ -218,8 +218,8 @@ push-kept s word h x =
     let below : at ≤ 2 ^ 64 = omega arith in
     word-kept s at 8 word x
     (λ k.
-      or_right (list_any (λ r. r.write && has_address x r) s.regions) (nat_lt (offset_from (stack_base s) x) s.stack)
-      (tests-inside (2 ^ 64 - stack_base s) at 8 s.stack x below h k))
+    or_right (list_any (λ r. r.write && has_address x r) s.regions) (nat_lt (offset_from (stack_base s) x) s.stack)
+    (tests-inside (2 ^ 64 - stack_base s) at 8 s.stack x below h k))
 
 free-kept : (pool : List ℕ) (o : Op) (i : Insn) (s : Machine) → IsTested i → allows_by o i s ≡ true → LeadsTo (SameUnwritable s) (free_by pool o i s)
 free-kept pool (ops.Cmov c) i s lea h = conditional-leads (SameUnwritable s) (cond_of c s.flags) _ (λ b. row-kept pool i s (bit b) lea h)
@@ -263,7 +263,7 @@ same_writable s t f x = λ j.
 memory-joined : (s t u : Machine) → SameFrame s t → SameUnwritable s t → SameUnwritable t u → SameUnwritable s u
 memory-joined s t u f g h x =
     elim (h x) [
-      inl later ↦ elim (g x) [ inl before ↦ inl (later ∙ before) | inr writable ↦ inr writable ]
+      | inl later ↦ elim (g x) [ inl before ↦ inl (later ∙ before) | inr writable ↦ inr writable ]
       | inr writable ↦ inr (sym (same_writable s t f x) ∙ writable)
     ]
 

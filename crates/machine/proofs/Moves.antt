@@ -1,13 +1,13 @@
 -- What a plain move, sum or difference does to the whole state: the registers change as in the short form, the flags
 -- somehow, and the place is the next one.
-use Rattle.std.proofs.Common.{◌≡◌, ℕ, ◌+◌, ◌-◌, ◌^◌, ◌%◌, ◌<◌, inl, inr, Bool, List, [], ◌∷◌, slice_get, slice_index, slice_set, Option, Some, refl, sym, ◌∙◌, ap, subst, arith}
+use Rattle.std.proofs.Common.{◌≡◌, ℕ, ◌+◌, ◌-◌, ◌^◌, ◌%◌, ◌<◌, Bool, List, [], ◌∷◌, slice_get, slice_index, slice_set, Option, Some, sym, ◌∙◌, ap, subst, arith}
 use Rattle.align_base.specs.declared.op.Flags.{Flags}
 use Rattle.align_base.specs.declared.op.Op.{Op}
 use Rattle.align_base.specs.declared.op.Op.TheVariants.{Mov, Add, Sub}
 use Rattle.insn_table.specs.declared.insn.Insn.{Insn}
 use Rattle.insn_table.specs.declared.insn.Operand.{Operand}
 use Rattle.insn_table.specs.declared.insn.Operand.TheVariants.{Reg, Imm, Mem, Vec, Pool, Target, Nothing}
-use Rattle.insn_table.specs.Sound.{IsMoveOf, IsRegister, IsSource}
+use Rattle.insn_table.specs.Sound.{IsRegister, IsSource}
 use Rattle.insn_table.specs.Plain.{IsMoveOp, IsPlainMove}
 use Rattle.instruction_semantics.specs.FlagRules.{flags_after}
 use Rattle.machine.specs.Access.{allows}
@@ -23,7 +23,7 @@ moved pool i s =
     record s {
       regs = regs_after i s.regs;
       flags = flags_after i.op i.w (destination_value pool i s) (source_value pool i.op i s) s.flags;
-      place = s.place + 1
+      place = s.place + 1;
     }
 
 -- a move by its parts

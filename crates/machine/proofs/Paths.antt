@@ -1,9 +1,9 @@
 -- Paths over states of any kind: what a way says of the run, and what the tests make of a way of the free step.
 use Rattle.std.proofs.Common.{◌≡◌, ℕ, suc, ◌+◌, ◌==◌, ◌≤◌, Bool, true, false, ◌&&◌, List, [], ◌∷◌, length, Option, None, Some, if◌then◌else◌, refl, sym, ◌∙◌, ap, eqb-true, arith}
-use Rattle.machine.specs.Path.{Arrived, FallsWithin, Way, Through, Back, Fell, Off, allowed_after, allowed_along, by_test, rested, returned_at, walked, way}
-use Rattle.machine.specs.Run.{Step, Goes, Returns, Faults, MeetsUnset, Run, ended_by, later, run_of}
+use Rattle.machine.specs.Path.{Arrived, FallsWithin, Way, Through, Back, Fell, Off, allowed_after, allowed_along, by_test, rested, walked, way}
+use Rattle.machine.specs.Run.{Step, Goes, Returns, Faults, MeetsUnset, ended_by, later, run_of}
 use Rattle.machine.specs.Step.{closed, tested}
-use Rattle.machine.specs.declared.state.RunEnd.TheVariants.{Returned, Faulted, Running}
+use Rattle.machine.specs.declared.state.RunEnd.TheVariants.{Returned, Running}
 use Rattle.machine.proofs.Runs.{faulted_stays, run-goes}
 
 -- A way that begins at its first place, and one that begins elsewhere, which is off.

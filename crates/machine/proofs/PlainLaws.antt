@@ -4,7 +4,7 @@ use Rattle.std.proofs.Math.Seq.{take-append_seam}
 use Rattle.insn_table.specs.declared.insn.Insn.{Insn}
 use Rattle.insn_table.specs.Plain.{IsPlain}
 use Rattle.machine.specs.Equivalent.{AreEquivalent}
-use Rattle.machine.specs.Machine.{AreRegs, Machine, IsPlainStart, SameRax, rax}
+use Rattle.machine.specs.Machine.{AreRegs, Machine, IsPlainStart, SameRax}
 use Rattle.machine.specs.Run.{run_of, end_of}
 use Rattle.machine.specs.Step.{step_of}
 use Rattle.machine.specs.Straight.{regs_through, OnlyReturns}
@@ -51,9 +51,9 @@ plain-equivalent f g pool_f pool_g p q same =
     (omega arith)
     (omega arith)
     (λ s start.
-      ap (λ (regs : List ℕ). slice_index regs 0) (plain_end-regs pool_f p s)
-      ∙ same s start
-      ∙ ap (λ (regs : List ℕ). slice_index regs 0) (sym (plain_end-regs pool_g q s)))
+    ap (λ (regs : List ℕ). slice_index regs 0) (plain_end-regs pool_f p s)
+    ∙ same s start
+    ∙ ap (λ (regs : List ℕ). slice_index regs 0) (sym (plain_end-regs pool_g q s)))
 
 pub plain-only_returns : (insns : List Insn) (pool : List ℕ) → IsPlain insns → (s : Machine) → IsPlainStart s → OnlyReturns insns pool s
 plain-only_returns insns pool p s start = record {

@@ -1,5 +1,5 @@
 -- What plain functions do from a start state: they return at their last instruction.
-use Rattle.std.proofs.Common.{◌≡◌, ◌≢◌, ℕ, zero, suc, ◌+◌, List, [], ◌∷◌, ◌++◌, length, drop, slice_get, slice_index, unwrap_or, Some, Bool, refl, sym, ◌∙◌, ap, subst, add-zero, add-one, zero-add, eq-eqb, get_or-set_other, length-append, arith}
+use Rattle.std.proofs.Common.{◌≡◌, ℕ, zero, suc, ◌+◌, List, [], ◌∷◌, ◌++◌, length, drop, slice_get, slice_index, unwrap_or, Some, Bool, refl, sym, ◌∙◌, ap, subst, add-zero, zero-add, eq-eqb, get_or-set_other, length-append, arith}
 use Rattle.std.specs.List.{AllByRecursion}
 use Rattle.align_base.specs.declared.op.Op.{Op}
 use Rattle.align_base.specs.declared.op.Op.TheVariants.{Ret}

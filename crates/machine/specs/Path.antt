@@ -4,10 +4,10 @@ use Rattle.machine.specs.Run.{Step, Goes, Returns, Faults, MeetsUnset, run_of}
 use Rattle.machine.specs.declared.state.RunEnd.TheVariants.{Faulted}
 
 pub data Way (S : Type 0) : Type 0 where
-  Through : S → Way S      -- each step of the path was taken, and it stands at the next place
-  Back : S → Way S         -- it returned at the path's last place, and no place follows
-  Fell : Way S             -- it faulted at one of the path's places
-  Off : Way S              -- none of these
+  Through : S → Way S  -- each step of the path was taken, and it stands at the next place
+  Back : S → Way S  -- it returned at the path's last place, and no place follows
+  Fell : Way S  -- it faulted at one of the path's places
+  Off : Way S  -- none of these
 
 -- the end of a path
 abbrev pub rested : {S : Type 0} → (S → ℕ) → Option ℕ → S → Way S
