@@ -55,21 +55,22 @@ plain-equivalent f g pool_f pool_g p q same =
     ∙ same s start
     ∙ ap (λ (regs : List ℕ). slice_index regs 0) (sym (plain_end-regs pool_g q s)))
 
-pub plain-only_returns : (insns : List Insn) (pool : List ℕ) → IsPlain insns → (s : Machine) → IsPlainStart s → OnlyReturns insns pool s
-plain-only_returns insns pool p s start = record {
-  end = plain_end pool p s;
-  returned = plain_ends insns pool p s start;
-  regs = subst AreRegs (sym (plain_end-regs pool p s)) (moves_keep_regs p.moves s.regs p.each start.start.valid.regs);
-  frame = through_frame pool p.moves s;
-  memory = through-memory pool p.moves s;
-  once = λ n i h. (plain-returns_only insns pool p s start n i h).1;
-  no_fault = plain_never_faults insns pool p s start;
-  no_unset = plain_never_unset insns pool p s start;
-}
-
 -- the moves are all instructions but the last
 pub plain_moves : (insns : List Insn) (p : IsPlain insns) → p.moves ≡ take (length insns - 1) insns
 plain_moves insns p =
     let count : length insns - 1 ≡ length p.moves = omega (arith, ap length p.whole, length-append p.moves (p.last ∷ [])) in
     sym (ap (λ (xs : List Insn). take (length insns - 1) xs) p.whole ∙ ap (λ (n : ℕ). take n (p.moves ++ p.last ∷ [])) count
     ∙ take-append_seam p.moves (p.last ∷ []))
+
+pub plain-only_returns : (insns : List Insn) (pool : List ℕ) → IsPlain insns → (s : Machine) → IsPlainStart s → OnlyReturns insns pool s
+plain-only_returns insns pool p s start = record {
+  end = plain_end pool p s;
+  returned = plain_ends insns pool p s start;
+  regs = subst AreRegs (sym (plain_end-regs pool p s)) (moves_keep_regs p.moves s.regs p.each start.start.valid.regs);
+  after = plain_end-regs pool p s ∙ ap (λ (moves : List Insn). regs_through moves s.regs) (plain_moves insns p);
+  frame = through_frame pool p.moves s;
+  memory = through-memory pool p.moves s;
+  once = λ n i h. (plain-returns_only insns pool p s start n i h).1;
+  no_fault = plain_never_faults insns pool p s start;
+  no_unset = plain_never_unset insns pool p s start;
+}

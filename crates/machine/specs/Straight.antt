@@ -1,6 +1,6 @@
 -- Straight code: plain moves, sums and differences, one after another, by what they do to the registers; and how plain
 -- functions end.
-use Rattle.std.specs.Prelude.{◌≡◌, ◌≢◌, ℕ, ◌+◌, ◌-◌, ◌^◌, ◌%◌, List, [], ◌∷◌, length, slice_index, slice_set}
+use Rattle.std.specs.Prelude.{◌≡◌, ◌≢◌, ℕ, ◌+◌, ◌-◌, ◌^◌, ◌%◌, List, [], ◌∷◌, length, slice_index, slice_set, take}
 use Rattle.align_base.specs.declared.op.Op.{Op}
 use Rattle.align_base.specs.declared.op.Op.TheVariants.{Mov, Add, Sub}
 use Rattle.insn_table.specs.declared.insn.Insn.{Insn}
@@ -47,12 +47,13 @@ pub record LeaveTheSame (f g : List Insn) : Type 0 where
   pub right : IsPlain g
   pub same : (s : Machine) → IsPlainStart s → slice_index (regs_through left.moves s.regs) 0 ≡ slice_index (regs_through right.moves s.regs) 0
 
--- From the start state s it returns at its last instruction, in a state of 64-bit registers where all but registers,
--- flags and place is as it was, and ends in no other way.
+-- From the start state s it returns at its last instruction, in a state of 64-bit registers, those after all moves before
+-- it, where all but registers, flags and place is as it was; and it ends in no other way.
 pub record OnlyReturns (insns : List Insn) (pool : List ℕ) (s : Machine) : Type 0 where
   pub end : Machine
   pub returned : run_of (step_of insns pool) s (length insns) ≡ (end, Returned (length insns))
   pub regs : AreRegs end.regs
+  pub after : end.regs ≡ regs_through (take (length insns - 1) insns) s.regs
   pub frame : SameFrame s end
   pub memory : end.memory ≡ s.memory
   pub once : (n i : ℕ) → end_of (step_of insns pool) s n ≡ Returned i → i ≡ length insns
