@@ -6,5 +6,6 @@ pub mod Memory
 pub mod Operands
 pub mod Path
 pub mod Run
+pub mod Spans
 pub mod Step
 pub mod Straight
