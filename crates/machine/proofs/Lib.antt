@@ -1,3 +1,4 @@
 pub mod Bytewise
+pub mod Keeping
 pub mod Ordering
 pub mod Words

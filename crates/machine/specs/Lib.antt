@@ -1,11 +1,15 @@
 pub mod Access
 pub mod Equivalent
+pub mod Holding
 pub mod Kept
 pub mod Machine
 pub mod Memory
 pub mod Operands
 pub mod Path
 pub mod Run
+pub mod Runnable
 pub mod Spans
+pub mod Start
 pub mod Step
+pub mod Stepping
 pub mod Straight

@@ -4,4 +4,4 @@
 mod spans;
 mod state;
 
-pub use state::{Region, RunEnd, Span, StepEnd};
+pub use state::{Region, RunEnd, Span, State, StepEnd};

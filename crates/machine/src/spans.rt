@@ -1,9 +1,12 @@
-ghost use Rattle.std.specs.Prelude.{◌≡◌, ℕ, ◌+◌, ◌-◌, ◌*◌, ◌/◌, ◌%◌, ◌^◌, ◌<◌, ◌≤◌, ◌==◌, ◌&&◌, ◌↔◌, IsTrue, IfSome, IfNone, true, false, nat_le, nat_lt, length, slice_index, if◌then◌else◌};
+ghost use Rattle.std.specs.Prelude.{◌≡◌, ℕ, ◌+◌, ◌-◌, ◌*◌, ◌/◌, ◌%◌, ◌^◌, ◌<◌, ◌≤◌, ◌==◌, ◌&&◌, ◌↔◌, IsTrue, IfOk, IfSome, IfNone, true, false, nat_le, nat_lt, length, slice_index, if◌then◌else◌};
 ghost use Rattle.machine.specs.Kept.{AreOrdered, byte_of, is_spanned, memory_of};
 ghost use Rattle.machine.specs.Memory.{word_at, with_word};
 ghost use Rattle.machine.specs.Spans.{HasBytes, places};
+ghost use Rattle.machine.specs.Start.{contents};
 
 use crate::state::Span;
+use align_base::Memory;
+use std::alloc::Global;
 
 /// The byte at an address: that of the first span that has it, and 0 where none has it.
 pub fn byte_at(spans: &[Span], at: u64) -> u8
@@ -168,4 +171,22 @@ fn put_in(bytes: &mut Vec<u8>, from: usize, n: u32, word: u64)
     for k in 0..n {
         bytes[from + k as usize] = byte_of_word(word, k);
     }
+}
+
+/// A copy of spans.
+pub fn copy_spans(alloc: Global, spans: &[Span]) -> Result<Vec<Span>, Memory>
+    ensures { IfOk result (λ copied. contents copied.items ≡ contents spans.now) }
+{
+    let mut copied = Vec::new(alloc);
+    for span in spans {
+        let bytes = match Vec::from_slice(alloc, &span.bytes) {
+            Ok(bytes) => bytes,
+            Err(_) => return Err(Memory),
+        };
+        let pushed = copied.push(Span { at: span.at, bytes });
+        if pushed.is_err() {
+            return Err(Memory);
+        }
+    }
+    Ok(copied)
 }
