@@ -1,5 +1,6 @@
 pub mod Access
 pub mod Equivalent
+pub mod Family
 pub mod Holding
 pub mod Kept
 pub mod Machine
@@ -8,6 +9,7 @@ pub mod Operands
 pub mod Path
 pub mod Run
 pub mod Runnable
+pub mod Spanned
 pub mod Spans
 pub mod Start
 pub mod Step

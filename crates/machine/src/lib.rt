@@ -1,6 +1,7 @@
 //! The machine that runs functions, one step at a time.
 #![tactic(auto)]
 
+mod operands;
 mod spans;
 mod state;
 
