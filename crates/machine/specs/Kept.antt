@@ -1,6 +1,6 @@
 -- What the code keeps of a state: spans of bytes in place of a memory. pure_of says what they mean, and no theorem above
 -- mentions them.
-use Rattle.std.specs.Prelude.{◌≡◌, ◌⊎◌, ℕ, ◌+◌, ◌-◌, ◌^◌, ◌<◌, ◌≤◌, ◌&&◌, Bool, true, false, nat_le, nat_lt, List, [], ◌∷◌, length, map, slice_index, if◌then◌else◌}
+use Rattle.std.specs.Prelude.{◌≡◌, ◌⊎◌, ℕ, ◌+◌, ◌-◌, ◌^◌, ◌%◌, ◌<◌, ◌≤◌, ◌&&◌, Bool, true, false, nat_le, nat_lt, List, [], ◌∷◌, length, map, slice_index, if◌then◌else◌}
 use Rattle.std.specs.List.{AllByRecursion}
 use Rattle.align_base.specs.declared.op.Flags.{Flags}
 use Rattle.machine.specs.declared.state.Region.{Region}
@@ -30,9 +30,13 @@ abbrev pub is_spanned : List Span → ℕ → Bool
 is_spanned [] at = false
 is_spanned (span ∷ spans) at = if spans_address span at then true else is_spanned spans at
 
+-- the memory of spans, whose addresses wrap at 2^64
+abbrev pub memory_of : List Span → ℕ → ℕ
+memory_of spans at = byte_of spans (at % 2 ^ 64)
+
 -- the state that is kept so
 abbrev pub pure_of : Kept → Machine
-pure_of k = record { regs = k.regs; entry = k.entry; flags = k.flags; vecs = k.vecs; memory = byte_of k.spans; regions = k.regions; stack = k.stack; place = k.place }
+pure_of k = record { regs = k.regs; entry = k.entry; flags = k.flags; vecs = k.vecs; memory = memory_of k.spans; regions = k.regions; stack = k.stack; place = k.place }
 
 -- spans in order and apart, from an address on, none past 2^64
 abbrev pub AreOrdered : ℕ → List Span → Type 0

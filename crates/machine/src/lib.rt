@@ -2,9 +2,11 @@
 #![tactic(auto)]
 
 mod laws;
+mod operands;
+mod spans;
 mod state;
 
 pub use laws::{
     path_law, plain_functions_agree, plain_functions_return, run_law, step_frame_law, way_law,
 };
-pub use state::{Region, RunEnd, Span, StepEnd};
+pub use state::{Region, RunEnd, Span, State, StepEnd};
