@@ -16,6 +16,8 @@ mod sink;
 mod status;
 mod sure_shelf;
 mod sure_sink;
+#[cfg(test)]
+mod tests;
 mod whole;
 mod word;
 
