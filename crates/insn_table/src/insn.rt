@@ -1,5 +1,6 @@
 ghost use Rattle.std.specs.Prelude.{◌≡◌, ◌==◌, length};
 
+use crate::bytes::Bytes;
 use align_base::{Op, Word};
 use std::marker::Model;
 
@@ -90,9 +91,10 @@ impl Insns {
     }
 }
 
-/// A function of a text: its name and its instructions.
+/// A function of a text: its name, its instructions, and the bytes of its pool of constants.
 #[derive(Drop)]
 pub struct Function {
     pub name: Word,
     pub insns: Insns,
+    pub pool: Bytes,
 }
