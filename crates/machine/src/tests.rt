@@ -1,10 +1,11 @@
-ghost use Rattle.std.specs.Prelude.{◌≡◌, ◌<◌, ◌≢◌, false, IfOk, List, length};
+ghost use Rattle.std.specs.Prelude.{◌≡◌, ◌<◌, false, IfOk, List, length};
 ghost use Rattle.std.specs.List.{AllByRecursion};
+ghost use Rattle.insn_table.specs.Plain.{IsMoveOp};
 ghost use Rattle.insn_table.specs.Sound.{IsClosed, IsSound, IsSource};
 
 use crate::{RunEnd, State, StepEnd};
 use align_base::Word;
-use insn_table::{Function, Insn, Insns, Op, Operand};
+use insn_table::{Bytes, Function, Insn, Insns, Op, Operand};
 use std::alloc::Global;
 use std::test::Fail;
 
@@ -31,7 +32,7 @@ fn insn(op: Op, args: [Operand; 4]) -> Insn
 
 // A move, sum or difference from a source to a register.
 fn row(op: Op, source: Operand, n: u8) -> Insn
-    requires op { op ≢ Op.Ret }
+    requires op { IsMoveOp op }
     requires source { IsSource source }
     requires target { n < 16 }
     ensures { IsSound result }
@@ -51,6 +52,7 @@ fn function(alloc: Global, moves: &[Insn]) -> Result<Function, Fail>
     Ok(Function {
         name,
         insns: Insns::of(insns),
+        pool: Bytes::none(alloc),
     })
 }
 

@@ -2,12 +2,12 @@
 ghost use Rattle.std.specs.Prelude.{◌<◌, ◌^◌, IsTrue};
 ghost use Rattle.instruction_semantics.specs.Rows.{Computes};
 
+use crate::ops::{cond_of, op_of};
 use align_base::{Flags, Op};
 use lane_ops::{flags, holds, scalar};
 
-use crate::ops::{cond_of, op_of};
-
 /// A line of the table.
+#[derive(Drop)]
 pub enum Case {
     /// An operation by its number, its width, destination, source, the flags before, and what the
     /// processor answered: the result and each flag, 2 where it is unset.
@@ -21,12 +21,17 @@ pub enum Case {
         after: [u64; 5],
     },
     /// A condition by its number, the flags, and whether it holds.
-    Condition { cond: u64, flags: u64, holds: u64 },
+    Condition {
+        cond: u64,
+        flags: u64,
+        holds: u64,
+    },
     /// A line that is none of these.
     Unreadable,
 }
 
 /// Whether `lane_ops` agrees.
+#[derive(Drop)]
 pub enum Verdict {
     Right,
     Wrong,
@@ -56,7 +61,7 @@ fn code(flag: Option<bool>) -> u64 {
 fn is_word(w: u32, a: u64) -> bool
     ensures { IsTrue result → a < 2 ^ w }
 {
-    w >= 64 || a < 1u64 << w
+    w == 64 || (w < 64 && a < 1u64 << w)
 }
 
 /// Whether the row computes something of these operands.
@@ -71,22 +76,28 @@ fn can_compute(op: Op, w: u32, a: u64, b: u64) -> bool
         Op::Lea => true,
         Op::Movzx(m) | Op::Movsx(m) => 0 < m && m < w && is_word(m, b),
         Op::Cltq => w == 64 && is_word(32, b),
-        Op::Cmov(_) | Op::Set(_) | Op::Jump(_) | Op::Jmp | Op::Push | Op::Pop | Op::Ret | Op::Nop
+        Op::Cmov(_)
+        | Op::Set(_)
+        | Op::Jump(_)
+        | Op::Jmp
+        | Op::Push
+        | Op::Pop
+        | Op::Ret
+        | Op::Nop
         | Op::Endbr64 => false,
         _ => is_word(w, a) && is_word(w, b),
     }
 }
 
-/// The numbers of a line, up to twelve, and how many there are.
+/// The numbers of a line, twelve at most, and how many words it has.
 fn numbers(line: &str) -> ([u64; 12], usize) {
     let mut all = [0; 12];
-    let mut count = 0;
+    let mut count: usize = 0;
     for word in line.split(' ') {
-        if count == 12 {
-            break;
+        if let Some(slot) = all.get_mut(count) {
+            *slot = word.parse::<u64>().unwrap_or(u64::MAX);
         }
-        all[count] = word.parse::<u64>().unwrap_or(u64::MAX);
-        count += 1;
+        count = count.saturating_add(1);
     }
     (all, count)
 }
@@ -141,7 +152,11 @@ impl Case {
                 Some(op) => is_right(op, *w, *a, *b, *before, *value, after),
             },
         };
-        if right { Verdict::Right } else { Verdict::Wrong }
+        if right {
+            Verdict::Right
+        } else {
+            Verdict::Wrong
+        }
     }
 }
 

@@ -11,6 +11,7 @@ use std::io;
 use std::io::{BufRead, BufReader};
 
 /// How many cases were read, and how many were wrong.
+#[derive(Drop)]
 struct Counts {
     of_ops: [u64; 24],
     conditions: u64,
