@@ -154,7 +154,7 @@ module _ (text name : List ℕ) (texts : List (List ℕ)) (labelled : IsLabelled
       record {
         labelled = labelled;
         named = refl;
-    no_pool = refl;
+        no_pool = refl;
         count = omega arith;
         each = λ k line there. at_line insns k line (read-at [] 2 texts insns all k line (sym (line-behind k) ∙ there));
         some = omega (arith, some_lines texts some);
