@@ -330,7 +330,7 @@ shl_to_xor =
 
 -- all rows
 unfoldable pub general_rows : List Row
-general_rows = add_to_cltq ++ (cmova_to_cmovnc ++ (cmovne_to_cmovz ++ (cmp_to_lea ++ (mov_to_sar ++ (set_rows ++ (shl_to_xor))))))
+general_rows = add_to_cltq ++ (cmova_to_cmovnc ++ (cmovne_to_cmovz ++ (cmp_to_lea ++ (mov_to_sar ++ (set_rows ++ shl_to_xor)))))
 
 -- whether each word stands behind the one before it in byte order, the first behind this word
 abbrev pub in_order_after : List ℕ → List Row → Bool
