@@ -1,5 +1,5 @@
 //! The files of the working folder.
-ghost use Rattle.std.specs.Prelude.{None};
+ghost use Rattle.std.specs.Prelude.{◌≡◌, None};
 ghost use Rattle.align_base.specs.Reading.{ReadWithin};
 
 use crate::shelf::{Call, PutFault, Shelf, TakeFault};
@@ -21,7 +21,12 @@ pub struct FolderShelf<'a, R: Files> {
 
 impl<'a, R: Files> FolderShelf<'a, R> {
     /// The working folder.
-    pub fn new(rt: &'a R) -> FolderShelf<'a, R> {
+    pub fn new(rt: &'a R) -> FolderShelf<'a, R>
+        ensures holding { ⟦<FolderShelf<'a, R> as Shelf>⟧.holding result ≡ None }
+        ensures faults { ⟦<FolderShelf<'a, R> as Shelf>⟧.faults result ≡ 0 }
+        ensures read { ⟦<FolderShelf<'a, R> as Shelf>⟧.seen result ≡ 0 }
+        ensures last { ⟦<FolderShelf<'a, R> as Shelf>⟧.last_failed result ≡ None }
+    {
         FolderShelf {
             rt,
             faults: 0,

@@ -17,6 +17,8 @@ mod sink;
 mod status;
 mod sure_shelf;
 mod sure_sink;
+#[cfg(test)]
+mod tests;
 mod whole;
 mod word;
 

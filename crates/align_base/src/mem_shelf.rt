@@ -1,5 +1,5 @@
 //! A shelf in memory whose calls fail by their numbers.
-ghost use Rattle.std.specs.Prelude.{◌≡◌, ◌≤◌, ℕ, length, Option, Some, option_map, is_some, IfOk, OnOk, IsErrOf};
+ghost use Rattle.std.specs.Prelude.{◌≡◌, ◌≤◌, ℕ, length, Option, Some, None, option_map, is_some, IfOk, OnOk, IsErrOf};
 ghost use Rattle.align_base.specs.Files.{first_held};
 ghost use Rattle.align_base.specs.Shelf.{Holding, Holds, IfLarge, OthersStay, PutCause, TakeCause};
 ghost use Rattle.align_base.specs.declared.shelf.Call.{Call};
@@ -30,6 +30,12 @@ impl MemShelf {
         ensures files { shelf_files result ≡ files.items }
         ensures failing { shelf_failing result ≡ failing.items }
         ensures calls { shelf_calls result ≡ 0 }
+
+        // What it is as a shelf.
+        ensures holding { ⟦<MemShelf as Shelf>⟧.holding result ≡ Some (first_held files.items) }
+        ensures faults { ⟦<MemShelf as Shelf>⟧.faults result ≡ 0 }
+        ensures read { ⟦<MemShelf as Shelf>⟧.seen result ≡ 0 }
+        ensures last { ⟦<MemShelf as Shelf>⟧.last_failed result ≡ None }
     {
         MemShelf {
             files,
@@ -82,6 +88,7 @@ impl Shelf for MemShelf {
         ensures fails { TakeFails self.old name.now result }
         ensures counted { shelf_calls self.new ≡ next_call (shelf_calls self.old) }
         ensures failing { shelf_failing self.new ≡ shelf_failing self.old }
+        ensures unread { IsErrOf result TakeFault.Failed → self.new.seen ≡ 0 }
 
         // What every shelf ensures.
         ensures same { shelf_files self.new ≡ shelf_files self.old }
@@ -118,11 +125,13 @@ impl Shelf for MemShelf {
         ensures fails { PutFails self.old result }
         ensures counted { shelf_calls self.new ≡ next_call (shelf_calls self.old) }
         ensures failing { shelf_failing self.new ≡ shelf_failing self.old }
+        ensures failed { IsErrOf result PutFault.Failed → shelf_files self.new ≡ shelf_files self.old }
 
         // What every shelf ensures.
         ensures held { OnOk result (Holds (Some (first_held (shelf_files self.new))) name.now bytes.now) }
         ensures others { OthersStay name.now (Some (first_held (shelf_files self.old))) (Some (first_held (shelf_files self.new))) }
         ensures memory { IsErrOf result PutFault.Memory → shelf_files self.new ≡ shelf_files self.old }
+        ensures read { self.new.seen ≡ self.old.seen }
         ensures cause { PutCause (Call.Put name.now) self.old.faults self.new.faults self.old.last_failed self.new.last_failed result }
         ensures later { self.old.faults ≤ self.new.faults }
     {

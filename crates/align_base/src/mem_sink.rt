@@ -1,5 +1,5 @@
 //! A sink in memory whose calls fail by their numbers.
-ghost use Rattle.std.specs.Prelude.{◌≡◌, ◌≤◌, [], List, Some};
+ghost use Rattle.std.specs.Prelude.{◌≡◌, ◌≤◌, [], List, Some, IsErrOf};
 ghost use Rattle.align_base.specs.Sink.{GiveTells};
 
 use crate::sink::{GiveFault, Sink};
@@ -23,6 +23,10 @@ impl MemSink {
         ensures text { sink_text result ≡ [] }
         ensures failing { sink_failing result ≡ failing.items }
         ensures calls { sink_calls result ≡ 0 }
+
+        // What it is as a sink.
+        ensures written { ⟦<MemSink as Sink>⟧.written result ≡ Some [] }
+        ensures faults { ⟦<MemSink as Sink>⟧.faults result ≡ 0 }
     {
         MemSink {
             text: Vec::new(alloc),
@@ -51,6 +55,7 @@ impl Sink for MemSink {
         ensures fails { GiveFails self.old result }
         ensures counted { sink_calls self.new ≡ next_call (sink_calls self.old) }
         ensures failing { sink_failing self.new ≡ sink_failing self.old }
+        ensures failed { IsErrOf result GiveFault.Failed → sink_text self.new ≡ sink_text self.old }
 
         // What every sink ensures.
         ensures tells { GiveTells self.old.faults self.new.faults (Some (sink_text self.old)) (Some (sink_text self.new)) bytes.now result }

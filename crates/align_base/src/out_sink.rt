@@ -1,5 +1,6 @@
 //! Standard output.
-ghost use Rattle.std.specs.Prelude.{None};
+ghost use Rattle.std.specs.Prelude.{◌≡◌, ◌≤◌, None, IsErrOf};
+ghost use Rattle.align_base.specs.Sink.{GiveTells};
 
 use crate::sink::{GiveFault, Sink};
 use crate::whole::write_whole;
@@ -15,7 +16,10 @@ pub struct OutSink<'a, R: Print> {
 
 impl<'a, R: Print> OutSink<'a, R> {
     /// The standard output of this runtime.
-    pub fn new(rt: &'a R) -> OutSink<'a, R> {
+    pub fn new(rt: &'a R) -> OutSink<'a, R>
+        ensures written { ⟦<OutSink<'a, R> as Sink>⟧.written result ≡ None }
+        ensures faults { ⟦<OutSink<'a, R> as Sink>⟧.faults result ≡ 0 }
+    {
         OutSink { rt, faults: 0 }
     }
 }
@@ -25,7 +29,13 @@ impl<'a, R: Print> Sink for OutSink<'a, R> {
 
     ghost faults = { λ s. s.faults };
 
-    fn give(&mut self, bytes: &[u8]) -> Result<(), GiveFault> {
+    fn give(&mut self, bytes: &[u8]) -> Result<(), GiveFault>
+        ensures memory { IsErrOf result GiveFault.Memory → ⊥ }
+
+        // What every sink ensures.
+        ensures tells { GiveTells self.old.faults self.new.faults None None bytes.now result }
+        ensures later { self.old.faults ≤ self.new.faults }
+    {
         if write_whole(&mut io::writer(self.rt), bytes) {
             return Ok(());
         }

@@ -57,13 +57,14 @@ pub trait Shelf {
         ensures cause { TakeCause (Call.Take name.now) (faults self.old) (faults self.new) (last_failed self.old) (last_failed self.new) result }
         ensures later { faults self.old ≤ faults self.new };
 
-    /// Makes the name hold the bytes. After `Failed` it may hold anything; after `Memory` nothing has
-    /// changed.
+    /// Makes the name hold the bytes, and reads nothing. After `Failed` it may hold anything; after
+    /// `Memory` nothing has changed.
     fn put(&mut self, alloc: Global, name: &Word, bytes: &[u8]) -> Result<(), PutFault>
         ensures held { OnOk result (Holds (holding self.new) name.now bytes.now) }
         ensures others { OthersStay name.now (holding self.old) (holding self.new) }
         ensures told { is_some (holding self.new) ≡ is_some (holding self.old) }
         ensures memory { IsErrOf result PutFault.Memory → holding self.new ≡ holding self.old }
+        ensures read { seen self.new ≡ seen self.old }
         ensures cause { PutCause (Call.Put name.now) (faults self.old) (faults self.new) (last_failed self.old) (last_failed self.new) result }
         ensures later { faults self.old ≤ faults self.new };
 }

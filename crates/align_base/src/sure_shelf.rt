@@ -20,7 +20,13 @@ impl SureShelf {
 
     /// A shelf of these files. Of equal names the first file holds.
     pub fn new(files: Vec<(Word, Vec<u8>)>) -> SureShelf
-        ensures { sure_files result ≡ files.items }
+        ensures files { sure_files result ≡ files.items }
+
+        // What it is as a shelf.
+        ensures holding { ⟦<SureShelf as Shelf>⟧.holding result ≡ Some (λ name. Some (held_or_empty files.items name)) }
+        ensures faults { ⟦<SureShelf as Shelf>⟧.faults result ≡ 0 }
+        ensures read { ⟦<SureShelf as Shelf>⟧.seen result ≡ 0 }
+        ensures last { ⟦<SureShelf as Shelf>⟧.last_failed result ≡ None }
     {
         SureShelf { files, seen: 0 }
     }

@@ -15,7 +15,11 @@ impl SureSink {
 
     /// An empty sink.
     pub fn new(alloc: Global) -> SureSink
-        ensures { sure_text result ≡ [] }
+        ensures text { sure_text result ≡ [] }
+
+        // What it is as a sink.
+        ensures written { ⟦<SureSink as Sink>⟧.written result ≡ Some [] }
+        ensures faults { ⟦<SureSink as Sink>⟧.faults result ≡ 0 }
     {
         SureSink {
             text: Vec::new(alloc),

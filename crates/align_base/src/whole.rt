@@ -1,5 +1,7 @@
 //! Reading and writing whole files and streams.
-ghost use Rattle.align_base.specs.Reading.{ReadWithin};
+ghost use Rattle.std.specs.Bool.{OnTrue};
+ghost use Rattle.std.specs.Io.KnownBytes.{Appends};
+ghost use Rattle.align_base.specs.Reading.{ReadsAll, ReadWithin, TakesCount};
 
 use std::alloc::Global;
 use std::io::{Read, Write};
@@ -19,7 +21,9 @@ pub enum Reading {
 /// The bytes of a file up to its end, at most `limit`, and how many bytes were read. Each turn reads a
 /// byte or more, so there are at most `limit + 1`.
 pub fn read_whole<F: Read>(alloc: Global, file: &mut F, limit: u64) -> (Reading, u64)
-    ensures { ReadWithin limit result.0 result.1 }
+    ensures within { ReadWithin limit result.0 result.1 }
+    ensures seen { TakesCount (F.remaining file.old) (F.remaining file.new) result.1 }
+    ensures bytes { ReadsAll (F.remaining file.old) limit result.0 }
 {
     let mut bytes = Vec::new(alloc);
     let mut chunk = [0u8; CHUNK];
@@ -32,7 +36,7 @@ pub fn read_whole<F: Read>(alloc: Global, file: &mut F, limit: u64) -> (Reading,
             }
             Ok(count) => {
                 if bytes.extend_from_slice(&chunk[..count]).is_err() {
-                    return (Reading::NoMemory, bytes.len() as u64);
+                    return (Reading::NoMemory, (bytes.len() + count) as u64);
                 }
             }
         }
@@ -41,7 +45,9 @@ pub fn read_whole<F: Read>(alloc: Global, file: &mut F, limit: u64) -> (Reading,
 }
 
 /// Writes all of the bytes, and answers whether that was done. A write that takes no byte is a fault.
-pub fn write_whole<F: Write>(file: &mut F, bytes: &[u8]) -> bool {
+pub fn write_whole<F: Write>(file: &mut F, bytes: &[u8]) -> bool
+    ensures { OnTrue result (Appends (F.contents file.old) (F.contents file.new) bytes.now) }
+{
     let mut rest = bytes;
     while !rest.is_empty() {
         match file.write(rest) {

@@ -52,7 +52,7 @@ good_differs told seen side file name report good (inl large) =
 good_differs told seen side file name report good (inr line) =
     let e = same_text told good.0 file good.1 line.0 good.3 good.4 line.2 in
     let P : List ℕ → Type 0 = λ t. IsRefused t name line.1 in
-    refused-differs good.1 name line.1 good.2 (subst P e line.3) good.6
+    refused-differs good.1 name line.1 good.2 (subst P e line.4) good.6
 
 no_verdict : (Says : List Insn → List Insn → List ℕ → Type 0) (form : ShortForm) (told : Option Holding) (report : List ℕ) → TellsOf Says form told report
     → IsBadFile told form.left_file form.left_name ⊎ IsBadFile told form.right_file form.right_name → ⊥

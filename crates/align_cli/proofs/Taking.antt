@@ -1,28 +1,17 @@
 -- What a file gave, by what the shelf and the reader answered.
-use Rattle.std.proofs.Common.{◌≡◌, ◌≢◌, inl, inr, ℕ, List, Option, Result, Ok, Err, MatchResult, IfOk, String, Vec, Global, string_bytes, refl, sym, ap, subst}
-use Rattle.align_base.specs.Shelf.{Holding, Holds, IfLarge, TakeCause}
+use Rattle.std.proofs.Common.{◌≡◌, inl, ℕ, List, Option, Result, Ok, Err, MatchResult, IfOk, String, Vec, Global, string_bytes, sym, ap, subst}
+use Rattle.align_base.specs.Shelf.{Holding, IfLarge, TakeCause}
 use Rattle.align_base.specs.declared.shelf.Call.{Call}
 use Rattle.align_base.specs.declared.shelf.TakeFault.{TakeFault}
 use Rattle.align_base.specs.declared.shelf.TakeFault.TheVariants as take
 use Rattle.align_base.specs.declared.status.Side.{Side}
 use Rattle.align_base.specs.declared.status.Status.{Status}
 use Rattle.align_base.specs.declared.status.Status.TheVariants as status
-use Rattle.att_reader.specs.declared.refusal.ReadKind.{ReadKind}
-use Rattle.att_reader.specs.declared.refusal.ReadKind.TheVariants.{Memory, NoFunction, UnknownInstruction, FallsOff}
-use Rattle.att_reader.specs.declared.refusal.ReadRefusal.{ReadRefusal}
-use Rattle.att_reader.specs.Refusals.{IsRefused, UnlessMemory}
 use Rattle.align_cli.specs.Decide.{TakenAs, TakeFails}
 use Rattle.align_cli.specs.Headline.{RefusesFile, file_limit}
-use Rattle.align_cli.specs.Report.{large_refusal, line_refusal}
+use Rattle.align_cli.specs.Report.{large_refusal}
 use Rattle.align_cli.specs.declared.decide.Taken.{Taken}
 use Rattle.align_cli.specs.declared.decide.Taken.TheVariants.{Refused}
-
--- a fault that is no want of memory
-unless_known : (kind : ReadKind) (line : ℕ) (P : Type 0) → kind ≢ Memory → UnlessMemory kind line P → P
-unless_known Memory line P other h = absurd (other refl)
-unless_known NoFunction line P other h = h
-unless_known UnknownInstruction line P other h = h
-unless_known FallsOff line P other h = h
 
 -- the answer s that carries the text r of a refusal, or want of memory
 abbrev pub Carries : {E : Type 0} → Result (String Global) E → Result Taken Status → Type 0
@@ -44,13 +33,6 @@ module _ {E : Type 0} (r : Result (String Global) E) (s : Result Taken Status) (
       → IfOk r (λ text. string_bytes text ≡ large_refusal side n) → IfLarge {T = Vec ℕ Global} told file file_limit seen (Err fault) → IfOk s (TakenAs told seen side file name)
   carried_large told seen n side file name fault is says large =
       let h = rw is at large in carried told seen side file name (large_refusal side n) says (inl (h.2, h.1, ap (large_refusal side) h.0))
-
-  -- a text that is refused
-  pub carried_line : (told : Option Holding) (seen : ℕ) (side : Side) (file name text : List ℕ) (e : ReadRefusal)
-      → IfOk r (λ t. string_bytes t ≡ line_refusal side e.line e.kind) → Holds told file text → e.kind ≢ Memory
-      → UnlessMemory e.kind e.line (IsRefused text name e) → IfOk s (TakenAs told seen side file name)
-  carried_line told seen side file name text e says held other refused =
-      carried told seen side file name (line_refusal side e.line e.kind) says (inr (text, e, held, unless_known e.kind e.line (IsRefused text name e) other refused, refl))
 
 -- a take that answered Large left the count of faults
 pub large_stays : (call : Call) (before now n : ℕ) (was is : Option Call) (fault : TakeFault) → fault ≡ take.Large n

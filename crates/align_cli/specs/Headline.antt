@@ -96,11 +96,11 @@ pub record TellsOf (Says : List Insn → List Insn → List ℕ → Type 0) (for
   pub names : Names form told left right
   pub says : Says left.insns right.insns report
 
--- one side's file is more than the limit, or its text is no plain text; seen is how many bytes the last take read
+-- one side's file is more than the limit, or it is within the limit and its text is no plain text; seen is how many bytes the last take read
 abbrev pub RefusesFile : Option Holding → ℕ → Side → List ℕ → List ℕ → List ℕ → Type 0
 RefusesFile told seen side file name report =
     (HoldsMore told file file_limit × (file_limit < seen) × (report ≡ large_refusal side (file_limit + 1)))
-    ⊎ ((text : List ℕ) × (e : ReadRefusal) × Holds told file text × IsRefused text name e × (report ≡ line_refusal side e.line e.kind))
+    ⊎ ((text : List ℕ) × (e : ReadRefusal) × Holds told file text × (length text ≤ file_limit) × IsRefused text name e × (report ≡ line_refusal side e.line e.kind))
 
 -- one side's file holds a plain text within the limit
 abbrev pub ReadsFile : Option Holding → List ℕ → List ℕ → Type 0

@@ -5,6 +5,8 @@ mod decide;
 mod form;
 mod report;
 mod sums;
+#[cfg(test)]
+mod tests;
 mod top;
 
 pub use top::align_main;

@@ -147,13 +147,14 @@ module _ (text name : List ℕ) (texts : List (List ℕ)) (labelled : IsLabelled
   line-behind k = ap (λ (ls : List (List ℕ)). slice_get ls (k + 1)) cut ∙ rw add-one refl
 
   -- what was read is a plain text
-  pub plain-from : (insns : List Insn) → AreRead [] 2 texts insns → list_any is_return (numbered 2 texts) ≡ true → IsPlainText text name (record { name = name; insns = insns })
+  pub plain-from : (insns : List Insn) → AreRead [] 2 texts insns → list_any is_return (numbered 2 texts) ≡ true → IsPlainText text name (record { name = name; insns = insns; pool = [] })
   plain-from insns all some =
       let long : length insns ≡ length texts = read-length [] 2 texts insns all in
       let whole : length (lines text) ≡ suc (length texts) = ap length cut in
       record {
         labelled = labelled;
         named = refl;
+        no_pool = refl;
         count = omega arith;
         each = λ k line there. at_line insns k line (read-at [] 2 texts insns all k line (sym (line-behind k) ∙ there));
         some = omega (arith, some_lines texts some);
@@ -175,9 +176,11 @@ same_by_place {X = X} (x ∷ xs) (y ∷ ys) long same =
     let rest : xs ≡ ys = same_by_place xs ys (omega arith) (λ k within. same (suc k) (omega arith)) in
     ap (λ (z : X). z ∷ xs) first ∙ ap (λ (zs : List X). y ∷ zs) rest
 
-same_function : (n m : List ℕ) (is js : List Insn) → n ≡ m → is ≡ js → ◌≡◌ {A = Function} (record { name = n; insns = is }) (record { name = m; insns = js })
-same_function n m is js names insns =
-    ap (λ (x : List ℕ). let f : Function = record { name = x; insns = is } in f) names ∙ ap (λ (x : List Insn). let f : Function = record { name = m; insns = x } in f) insns
+same_function : (n m : List ℕ) (is js : List Insn) (p q : List ℕ) → n ≡ m → is ≡ js → p ≡ q → ◌≡◌ {A = Function} (record { name = n; insns = is; pool = p }) (record { name = m; insns = js; pool = q })
+same_function n m is js p q names insns pools =
+    ap (λ (x : List ℕ). let f : Function = record { name = x; insns = is; pool = p } in f) names
+    ∙ ap (λ (x : List Insn). let f : Function = record { name = m; insns = x; pool = p } in f) insns
+    ∙ ap (λ (x : List ℕ). let f : Function = record { name = m; insns = js; pool = x } in f) pools
 
 module _ (text name : List ℕ) (f : Function) (plain : IsPlainText text name f) where
   -- the instruction that the line at a place spells
@@ -225,5 +228,5 @@ module _ (text name : List ℕ) (f : Function) (plain : IsPlainText text name f)
   -- it spells one function
   pub plain-once : (g : Function) → IsPlainText text name g → f ≡ g
   plain-once g other =
-      same_function f.name g.name f.insns g.insns (plain.named ∙ sym other.named)
-      (same_by_place f.insns g.insns (omega (arith, plain.count, other.count)) (once-at g other))
+      same_function f.name g.name f.insns g.insns f.pool g.pool (plain.named ∙ sym other.named)
+      (same_by_place f.insns g.insns (omega (arith, plain.count, other.count)) (once-at g other)) (plain.no_pool ∙ sym other.no_pool)

@@ -84,7 +84,7 @@ last-open (t ∷ ts) name none =
 
 close-outcome : (text name rest : List ℕ) (returned : Bool) (r : Result (List Insn) ReadRefusal) → IsLabelled text name → lines text ≡ (name ++ codes ":") ∷ lines rest
     → list_any is_return (numbered 2 (lines rest)) ≡ returned → IsOutcome IsUnknown Precedes IsRead [] (numbered 2 (lines rest)) r
-    → IsRight text name (close returned (line_number (1 + length (lines rest))) r >>= λ insns. Ok (record { name = name; insns = insns }))
+    → IsRight text name (close returned (line_number (1 + length (lines rest))) r >>= λ insns. Ok (record { name = name; insns = insns; pool = [] }))
 close-outcome text name rest true (Ok insns) labelled cut is out = plain-from text name (lines rest) labelled cut insns out.0 is
 close-outcome text name rest false (Ok insns) labelled cut is out =
     let body : numbered 2 (lines rest) ≡ body_of text = ap (λ (ls : List (List ℕ)). numbered 2 (drop 1 ls)) (sym cut) in

@@ -89,10 +89,12 @@ pub record IsLabelled (text name : List ℕ) : Type 0 where
   pub name_is : IsName name
   pub label : slice_get (lines text) 0 ≡ Some (name ++ codes ":")
 
--- the text spells the function: behind the label each line is the instruction at its place, and only the last returns
+-- the text spells the function: behind the label each line is the instruction at its place, only the last returns, and
+-- there are no constants
 pub record IsPlainText (text name : List ℕ) (f : Function) : Type 0 where
   pub labelled : IsLabelled text name
   pub named : f.name ≡ name
+  pub no_pool : f.pool ≡ []
   pub count : length (lines text) ≡ length f.insns + 1
   pub each : (k : ℕ) (line : List ℕ) → slice_get (lines text) (k + 1) ≡ Some line
       → (i : Insn) × (slice_get f.insns k ≡ Some i) × IsInsnText line (line_number (k + 2)) i

@@ -31,7 +31,7 @@ insns_behind returned line (text ∷ texts) =
 -- the function whose lines behind the label these are, if it has a label
 abbrev pub function_behind : List ℕ → Option (List ℕ) → Result Function ReadRefusal
 function_behind name None = Err (refusal 0 NoFunction)
-function_behind name (Some rest) = insns_behind false 1 (lines rest) >>= λ insns. Ok (record { name = name; insns = insns })
+function_behind name (Some rest) = insns_behind false 1 (lines rest) >>= λ insns. Ok (record { name = name; insns = insns; pool = [] })
 
 -- the function of this name that the text spells, or the first fault
 unfoldable pub function_of : List ℕ → List ℕ → Result Function ReadRefusal

@@ -17,7 +17,7 @@ use crate::cuts::first_line;
 use crate::refusal::{ReadKind, ReadRefusal};
 use crate::statement::insn_in;
 use align_base::Word;
-use insn_table::{Function, Insn, Insns};
+use insn_table::{Bytes, Function, Insn, Insns};
 use std::alloc::Global;
 
 // A letter, `_`, `.` or `$`.
@@ -125,7 +125,11 @@ fn function_of(alloc: Global, text: &[u8], name: &Word) -> Result<Function, Read
     };
     let insns = insns_behind(alloc, body)?;
     let name = Word::new(alloc, name.bytes())?;
-    Ok(Function { name, insns })
+    Ok(Function {
+        name,
+        insns,
+        pool: Bytes::none(alloc),
+    })
 }
 
 /// The function of this name that a plain text spells, or why the text spells none.

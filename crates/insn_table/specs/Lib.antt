@@ -1,2 +1,5 @@
 pub mod Sound
 pub mod Plain
+pub mod Spellings
+pub mod Forms
+pub mod Table

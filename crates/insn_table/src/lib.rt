@@ -4,8 +4,19 @@
 #![tactic(auto)]
 
 mod bytes;
+mod fitting;
+mod forms;
 mod insn;
+mod shape;
+mod spellings;
+mod table;
+#[cfg(test)]
+mod tests;
 
 pub use align_base::Op;
 pub use bytes::Bytes;
+pub use fitting::{Misfit, fits};
 pub use insn::{Function, Insn, Insns, Operand};
+pub use shape::Shape;
+pub use spellings::{look_up, rows_are_named, words_stand_once};
+pub use table::{fitted_insns_are_of_the_table, forms_are_apart, table_insns_have_words};

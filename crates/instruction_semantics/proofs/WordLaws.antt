@@ -1,14 +1,13 @@
 -- First laws of words, at every width.
-use Rattle.std.proofs.Common.{◌≡◌, ℕ, zero, suc, ◌+◌, ◌-◌, ◌*◌, ◌/◌, ◌%◌, ◌^◌, ◌<◌, ◌≤◌, ◌==◌, Bool, true, false, refl, sym, ◌∙◌, ap, subst, inl, inr, ◌⊎◌, arith, div-one}
-use Rattle.std.specs.Prelude.{bit_and, bit_or, bit_xor, nat_lt}
+use Rattle.std.proofs.Common.{◌≡◌, ℕ, zero, suc, ◌+◌, ◌-◌, ◌*◌, ◌/◌, ◌%◌, ◌^◌, ◌<◌, ◌≤◌, refl, sym, ◌∙◌, ap, subst, inl, inr, arith, div-one}
 use Rattle.std.proofs.lemmas.Bool.{cases_order, cases_lt, lt-ltb, le-ltb, eq-eqb, ne_eqb}
-use Rattle.std.proofs.lemmas.Nat.{and_le_l, or_lt, xor_lt, pow_pos, pow_below, mod_below, shr_below, shr_high, shr_le, shl-shr, field_of, mod_low, pow-add}
+use Rattle.std.proofs.lemmas.Nat.{and_le_l, or_lt, xor_lt, pow_pos, mod_below, shr_below, shr_high, shr_le, shl-shr, field_of, mod_low, pow-add}
 use Rattle.std.proofs.Math.Nat.{mod-add-mod, add-mod_right, mul-add-mod_self_left, mod-eq_of_lt, div-eq_of_lt, div-eq_of_lt-le}
 use Rattle.std.proofs.Math.Pow.{pow_mono}
 use Rattle.align_base.specs.declared.op.Op.{Op}
 use Rattle.align_base.specs.declared.op.Op.TheVariants as ops
 use Rattle.instruction_semantics.specs.Rows.{Computes, computed}
-use Rattle.instruction_semantics.specs.Words.{bit, plus, minus, times, complement, cut, joined, top, extended, shifted_left, shifted_right, shifted_signed, equal, below}
+use Rattle.instruction_semantics.specs.Words.{plus, minus, complement, cut, joined, top, extended, shifted_left, shifted_right, equal, below}
 
 -- a number below the modulus, with the modulus added
 pub once_around : (p a n : ℕ) → a < p → n ≡ a + p → n % p ≡ a
@@ -70,20 +69,20 @@ shifted_right-shifted_left w k a h =
 
 pub one_order : (a b : ℕ) → below a b + equal a b + below b a ≡ 1
 one_order a b = elim (cases_order a b) [
-    inl e ↦ rw (e, le-ltb b b (omega arith), eq-eqb b b refl) refl
+  | inl e ↦ rw (e, le-ltb b b (omega arith), eq-eqb b b refl) refl
   | inr (inl l) ↦ rw (lt-ltb a b l, le-ltb b a (omega arith), ne_eqb a b (omega arith)) refl
   | inr (inr g) ↦ rw (lt-ltb b a g, le-ltb a b (omega arith), ne_eqb a b (omega arith)) refl
-  ]
+]
 
 -- a sum is below its left operand where the true sum has one bit more
 pub below-plus : (w a b : ℕ) → a < 2 ^ w → b < 2 ^ w → below (plus w a b) a ≡ (a + b) / 2 ^ w
 below-plus w a b left right = elim (cases_lt (a + b) (2 ^ w)) [
-    inl l ↦ rw (mod-eq_of_lt l, div-eq_of_lt l, le-ltb (a + b) a (omega arith)) refl
+  | inl l ↦ rw (mod-eq_of_lt l, div-eq_of_lt l, le-ltb (a + b) a (omega arith)) refl
   | inr g ↦
       let low : (a + b) % 2 ^ w ≡ a + b - 2 ^ w = once_around (2 ^ w) (a + b - 2 ^ w) (a + b) (omega arith) (omega arith) in
       let one : (a + b) / 2 ^ w ≡ 1 = div-eq_of_lt-le (2 ^ w) (omega arith) (omega arith) in
       rw (low, one, lt-ltb (a + b - 2 ^ w) a (omega arith)) refl
-  ]
+]
 
 pub computed_below : (op : Op) (w a b : ℕ) → Computes op w a b → computed op w a b < 2 ^ w
 computed_below ops.Mov w a b h = h.3

@@ -21,15 +21,15 @@ pub data Shift : Type 0 where
   Signed : Shift
 
 pub data Expr : Type 0 where
-  Leaf : ℕ → Expr                              -- the word of this number
-  Number : ℕ → ℕ → Expr                        -- w bits, the number
-  Two : Operator → ℕ → Expr → Expr → Expr      -- two arguments of w bits
-  Not : ℕ → Expr → Expr                        -- w bits
-  Shifted : Shift → ℕ → Expr → ℕ → Expr        -- w bits, shifted by k
-  Joined : ℕ → Expr → Expr → Expr              -- the second has n bits
-  Cut : Expr → ℕ → ℕ → Expr                    -- n bits from bit k on
-  Extended : ℕ → ℕ → Expr → Expr               -- from m bits to n by the sign
-  Choice : Expr → Expr → Expr → Expr           -- the second where the first is 1, else the third
+  Leaf : ℕ → Expr  -- the word of this number
+  Number : ℕ → ℕ → Expr  -- w bits, the number
+  Two : Operator → ℕ → Expr → Expr → Expr  -- two arguments of w bits
+  Not : ℕ → Expr → Expr  -- w bits
+  Shifted : Shift → ℕ → Expr → ℕ → Expr  -- w bits, shifted by k
+  Joined : ℕ → Expr → Expr → Expr  -- the second has n bits
+  Cut : Expr → ℕ → ℕ → Expr  -- n bits from bit k on
+  Extended : ℕ → ℕ → Expr → Expr  -- from m bits to n by the sign
+  Choice : Expr → Expr → Expr → Expr  -- the second where the first is 1, else the third
 
 abbrev pub operated : Operator → ℕ → ℕ → ℕ → ℕ
 operated Plus w a b = words.plus w a b

@@ -1,11 +1,11 @@
 -- Which flags each general instruction sets, keeps and unsets. In the expressions leaf 0 is the result r, leaf 1 the
 -- left operand a and leaf 2 the right operand b of the sum, the difference or the shift.
 -- The manual leaves some of these flags undefined; there, and for `imul` also where it defines them, the flag is unset.
-use Rattle.std.specs.Prelude.{ℕ, zero, suc, ◌-◌, ◌==◌, Bool, true, false, Option, Some, None, if◌then◌else◌}
+use Rattle.std.specs.Prelude.{ℕ, zero, suc, ◌-◌, ◌==◌, Bool, Option, Some, None, if◌then◌else◌}
 use Rattle.align_base.specs.declared.op.Flags.{Flags}
 use Rattle.align_base.specs.declared.op.Op.{Op}
 use Rattle.align_base.specs.declared.op.Op.TheVariants as ops
-use Rattle.instruction_semantics.specs.Exprs.{Expr, Leaf, Number, Two, Not, Cut, Plus, And, Xor, Equal, Below, value}
+use Rattle.instruction_semantics.specs.Exprs.{Expr, Leaf, Number, Two, Not, Cut, And, Xor, Equal, Below, value}
 use Rattle.instruction_semantics.specs.Rows.{computed}
 
 pub data Rule : Type 0 where
@@ -139,5 +139,5 @@ flags_after op w a b before =
       pf = ruled leaves (result_rule op is_even) before.pf;
       zf = ruled leaves (result_rule op (is_zero w)) before.zf;
       sf = ruled leaves (result_rule op (is_negative w)) before.sf;
-      of = ruled leaves (overflow_rule op w b) before.of
+      of = ruled leaves (overflow_rule op w b) before.of;
     }

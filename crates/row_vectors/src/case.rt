@@ -1,35 +1,35 @@
 //! One case of the table, and whether `lane_ops` agrees with it.
-ghost use Rattle.std.specs.Prelude.{◌<◌, ◌^◌, IsTrue};
+ghost use Rattle.std.specs.Prelude.{◌≡◌, ◌<◌, ◌^◌, IsTrue};
 ghost use Rattle.instruction_semantics.specs.Rows.{Computes};
-
-use align_base::{Flags, Op};
-use lane_ops::{flags, holds, scalar};
+ghost use Rattle.row_vectors.specs.Agreement.{Agrees, code, codes};
 
 use crate::ops::{cond_of, op_of};
+use align_base::{Cond, Flags, Op};
+use lane_ops::{flags, holds, scalar};
 
 /// A line of the table.
+#[derive(Drop)]
 pub enum Case {
-    /// An operation by its number, its width, destination, source, the flags before, and what the
+    /// An operation and its number, its width, destination, source, the flags before, and what the
     /// processor answered: the result and each flag, 2 where it is unset.
     Row {
-        op: usize,
+        number: usize,
+        op: Op,
         w: u32,
         a: u64,
         b: u64,
-        before: u64,
+        before: Flags,
         value: u64,
         after: [u64; 5],
     },
-    /// A condition by its number, the flags, and whether it holds.
-    Condition { cond: u64, flags: u64, holds: u64 },
+    /// A condition, the flags, and whether it holds.
+    Condition {
+        cond: Cond,
+        flags: Flags,
+        holds: u64,
+    },
     /// A line that is none of these.
     Unreadable,
-}
-
-/// Whether `lane_ops` agrees.
-pub enum Verdict {
-    Right,
-    Wrong,
 }
 
 /// Flags by their bits: carry, parity, zero, sign, overflow, the lowest first.
@@ -44,7 +44,9 @@ fn flags_of(bits: u64) -> Flags {
 }
 
 /// 0 or 1, or 2 for a flag that is unset.
-fn code(flag: Option<bool>) -> u64 {
+fn code(flag: Option<bool>) -> u64
+    ensures { result ≡ code flag }
+{
     match flag {
         Some(false) => 0,
         Some(true) => 1,
@@ -56,7 +58,7 @@ fn code(flag: Option<bool>) -> u64 {
 fn is_word(w: u32, a: u64) -> bool
     ensures { IsTrue result → a < 2 ^ w }
 {
-    w >= 64 || a < 1u64 << w
+    w == 64 || (w < 64 && a < 1u64 << w)
 }
 
 /// Whether the row computes something of these operands.
@@ -71,22 +73,28 @@ fn can_compute(op: Op, w: u32, a: u64, b: u64) -> bool
         Op::Lea => true,
         Op::Movzx(m) | Op::Movsx(m) => 0 < m && m < w && is_word(m, b),
         Op::Cltq => w == 64 && is_word(32, b),
-        Op::Cmov(_) | Op::Set(_) | Op::Jump(_) | Op::Jmp | Op::Push | Op::Pop | Op::Ret | Op::Nop
+        Op::Cmov(_)
+        | Op::Set(_)
+        | Op::Jump(_)
+        | Op::Jmp
+        | Op::Push
+        | Op::Pop
+        | Op::Ret
+        | Op::Nop
         | Op::Endbr64 => false,
         _ => is_word(w, a) && is_word(w, b),
     }
 }
 
-/// The numbers of a line, up to twelve, and how many there are.
+/// The numbers of a line, twelve at most, and how many words it has.
 fn numbers(line: &str) -> ([u64; 12], usize) {
     let mut all = [0; 12];
-    let mut count = 0;
+    let mut count: usize = 0;
     for word in line.split(' ') {
-        if count == 12 {
-            break;
+        if let Some(slot) = all.get_mut(count) {
+            *slot = word.parse::<u64>().unwrap_or(u64::MAX);
         }
-        all[count] = word.parse::<u64>().unwrap_or(u64::MAX);
-        count += 1;
+        count = count.saturating_add(1);
     }
     (all, count)
 }
@@ -95,39 +103,25 @@ impl Case {
     /// The case of a line.
     pub fn read(line: &str) -> Case {
         let (n, count) = numbers(line);
-        if count == 12 && n[0] == 0 && n[1] < 24 && n[2] < 65 {
-            return Case::Row {
-                op: n[1] as usize,
-                w: n[2] as u32,
-                a: n[3],
-                b: n[4],
-                before: n[5],
-                value: n[6],
-                after: [n[7], n[8], n[9], n[10], n[11]],
-            };
+        match (n[0], count) {
+            (0, 12) => row_of(&n),
+            (1, 4) => condition_of(&n),
+            _ => Case::Unreadable,
         }
-        if count == 4 && n[0] == 1 {
-            return Case::Condition {
-                cond: n[1],
-                flags: n[2],
-                holds: n[3],
-            };
-        }
-        Case::Unreadable
     }
 
-    /// Whether `lane_ops` agrees with it. A line that cannot be read is wrong.
-    pub fn verdict(&self) -> Verdict {
-        let right = match self {
+    /// Whether `lane_ops` agrees with it, and so the definitions do. With a line that cannot be read
+    /// nothing agrees.
+    pub fn is_right(&self) -> bool
+        ensures { IsTrue result → Agrees self.now }
+    {
+        match self {
             Case::Unreadable => false,
             Case::Condition {
                 cond,
                 flags,
                 holds: wanted,
-            } => match cond_of(*cond) {
-                None => false,
-                Some(cond) => code(holds(cond, &flags_of(*flags))) == *wanted,
-            },
+            } => code(holds(*cond, flags)) == *wanted,
             Case::Row {
                 op,
                 w,
@@ -136,27 +130,52 @@ impl Case {
                 before,
                 value,
                 after,
-            } => match op_of(*op as u64) {
-                None => false,
-                Some(op) => is_right(op, *w, *a, *b, *before, *value, after),
-            },
-        };
-        if right { Verdict::Right } else { Verdict::Wrong }
+                ..
+            } => {
+                can_compute(*op, *w, *a, *b)
+                    && scalar(*op, *w, *a, *b) == *value
+                    && codes(flags(*op, *w, *a, *b, *before)) == *after
+            }
+        }
     }
 }
 
-/// Whether the result and each flag are those of the processor.
-fn is_right(op: Op, w: u32, a: u64, b: u64, before: u64, value: u64, after: &[u64; 5]) -> bool {
-    if !can_compute(op, w, a, b) || scalar(op, w, a, b) != value {
-        return false;
+fn row_of(n: &[u64; 12]) -> Case {
+    match op_of(n[1]) {
+        Some(op) if n[2] < 65 => Case::Row {
+            number: n[1] as usize,
+            op,
+            w: n[2] as u32,
+            a: n[3],
+            b: n[4],
+            before: flags_of(n[5]),
+            value: n[6],
+            after: [n[7], n[8], n[9], n[10], n[11]],
+        },
+        _ => Case::Unreadable,
     }
-    let found = flags(op, w, a, b, flags_of(before));
-    let found = [
-        code(found.cf),
-        code(found.pf),
-        code(found.zf),
-        code(found.sf),
-        code(found.of),
-    ];
-    found == *after
+}
+
+fn condition_of(n: &[u64; 12]) -> Case {
+    match cond_of(n[1]) {
+        Some(cond) => Case::Condition {
+            cond,
+            flags: flags_of(n[2]),
+            holds: n[3],
+        },
+        None => Case::Unreadable,
+    }
+}
+
+/// The flags as the table writes them.
+fn codes(flags: Flags) -> [u64; 5]
+    ensures { result ≡ codes flags }
+{
+    [
+        code(flags.cf),
+        code(flags.pf),
+        code(flags.zf),
+        code(flags.sf),
+        code(flags.of),
+    ]
 }

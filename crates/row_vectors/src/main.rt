@@ -3,32 +3,38 @@
 //! wrong.
 #![tactic(auto)]
 
+ghost use Rattle.std.specs.Prelude.{◌≡◌};
+ghost use Rattle.row_vectors.specs.Agreement.{Agrees};
+
 mod case;
 mod ops;
 
-use case::{Case, Verdict};
+use case::Case;
 use std::io;
 use std::io::{BufRead, BufReader};
 
 /// How many cases were read, and how many were wrong.
+#[derive(Drop)]
 struct Counts {
     of_ops: [u64; 24],
     conditions: u64,
     wrong: u64,
 }
 
-/// Counts a case.
-fn count(counts: &mut Counts, case: &Case) {
+/// Counts a case. Where none is wrong behind it, none was before, and this one agrees.
+fn count(counts: &mut Counts, case: &Case)
+    ensures { counts.new.wrong ≡ 0 → (counts.old.wrong ≡ 0) × Agrees case.now }
+{
     match case {
-        Case::Row { op, .. } => {
-            if let Some(n) = counts.of_ops.get_mut(*op) {
+        Case::Row { number, .. } => {
+            if let Some(n) = counts.of_ops.get_mut(*number) {
                 *n = n.saturating_add(1);
             }
         }
         Case::Condition { .. } => counts.conditions = counts.conditions.saturating_add(1),
         Case::Unreadable => {}
     }
-    if matches!(case.verdict(), Verdict::Wrong) {
+    if !case.is_right() {
         counts.wrong = counts.wrong.saturating_add(1);
     }
 }

@@ -7,7 +7,7 @@ returns-then-left-right-clause-some c = apart-none c.args.left.now c.args.right.
 
 pub returns-then-left-n-clause-some : goal.returns-then-left-n-clause-some
 returns-then-left-n-clause-some c =
-    apart-one c.args.left.now c.args.right.now c.loop-n.n c.loop-n-test.true (omega arith) (omega arith) (omega arith) (omega arith) (omega arith)
+    apart-one c.args.left.now c.args.right.now c.loop-n.n (omega arith) (omega arith) (omega arith) (omega arith) (omega arith) (omega arith)
     c.if-left-right.false c.if-left-n.true c.loop-n.invariant
 
 pub returns-clause-none : goal.returns-clause-none

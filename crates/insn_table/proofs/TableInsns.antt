@@ -1,0 +1,269 @@
+-- Instructions of the table have words, and fits answers such instructions.
+use Rattle.std.proofs.Common.{◌≡◌, ℕ, zero, suc, Bool, true, false, ◌&&◌, ◌||◌, not, ◌==◌, if◌then◌else◌, List, [], ◌∷◌, ◌++◌, Option, Some, None, Ok, Err, codes, refl, sym, ap, ◌∙◌, subst, arith, ◌⊎◌, inl, inr, ⊎_elim}
+use Rattle.std.specs.Prelude.{slice_get}
+use Rattle.std.specs.List.{find, list_all, AllByRecursion}
+use Rattle.std.proofs.lemmas.Option.{slice_get_within}
+use Rattle.std.proofs.lemmas.Bool.Decides.{Decides-eqb}
+use Rattle.align_base.specs.declared.op.Cond.{Cond}
+use Rattle.align_base.specs.declared.op.Cond.TheVariants.{E, Ne, B, Ae, Be, A, L, Ge, Le, G, S, Ns, O, No, P, Np}
+use Rattle.align_base.specs.declared.op.Op.{Op}
+use Rattle.align_base.specs.declared.op.Op.TheVariants.{Cmov}
+use Rattle.insn_table.specs.declared.insn.Operand.{Operand}
+use Rattle.insn_table.specs.declared.insn.Operand.TheVariants.{Reg, Imm, Mem, Vec, Pool, Target, Nothing}
+use Rattle.insn_table.specs.declared.insn.Insn.{Insn}
+use Rattle.insn_table.specs.declared.shape.Shape.{Shape}
+use Rattle.insn_table.specs.declared.fitting.Misfit.TheVariants.{BadNumber}
+use Rattle.insn_table.specs.Spellings.{Row, general, named, IsRowOf, general_rows, add_to_cltq, cmova_to_cmovnc, cmovne_to_cmovz, cmp_to_lea, mov_to_sar, set_rows, shl_to_xor}
+use Rattle.insn_table.specs.Forms.{Form, forms, has_wide_form, takes, numbers_fit, is_shift, is_lone, counted_once, completed, width_of, insn_of, form_of, judged_by, fits_of}
+use Rattle.insn_table.specs.Table.{shape_of, HasRegisters, IsTableInsn}
+use Rattle.insn_table.proofs.Rows.{rows-named, named-row}
+
+-- A row without a width is that of a move by condition, and none is that of a VEX form.
+abbrev is_move_by_condition : Op → Bool
+is_move_by_condition (Cmov condition) = true
+is_move_by_condition _ = false
+
+unfoldable is_usual : Row → Bool
+is_usual row = not row.1.vex && (not (row.1.w == 0) || is_move_by_condition row.1.op)
+
+usual_rows : list_all is_usual general_rows ≡ true
+unfolding general_rows add_to_cltq cmova_to_cmovnc cmovne_to_cmovz cmp_to_lea mov_to_sar set_rows shl_to_xor is_usual
+usual_rows = refl
+
+pub both_true : (a b : Bool) → (a && b) ≡ true → (a ≡ true) × (b ≡ true)
+both_true true b h = (refl, h)
+both_true false b h = cc
+
+either_true : (a b : Bool) → (a || b) ≡ true → (a ≡ true) ⊎ (b ≡ true)
+either_true true b h = inl refl
+either_true false b h = inr h
+
+not-true : (b : Bool) → not b ≡ true → b ≡ false
+not-true true h = cc
+not-true false h = refl
+
+some_same : {X : Type 0} (x y : X) → Some x ≡ Some y → x ≡ y
+some_same x y h = cc
+
+-- a test that all pass is passed by each
+passed_at : {X : Type 0} (p : X → Bool) (xs : List X) (k : ℕ) (x : X) → list_all p xs ≡ true → slice_get xs k ≡ Some x → p x ≡ true
+passed_at p [] k x all there = absurd (omega (arith, slice_get_within [] k x there))
+passed_at p (y ∷ ys) zero x all there = subst (λ z. p z ≡ true) (some_same y x there) (both_true _ _ all).0
+passed_at p (y ∷ ys) (suc k) x all there = passed_at p ys k x (both_true _ _ all).1 there
+
+unfoldable IsUsual : Shape → Type 0
+IsUsual shape = (shape.vex ≡ false) × (((shape.w == 0) ≡ false) ⊎ (is_move_by_condition shape.op ≡ true))
+
+row-usual : (word : List ℕ) (shape : Shape) → IsRowOf general_rows word shape → IsUsual shape
+unfolding is_usual IsUsual
+row-usual word shape row =
+    let usual : is_usual (word, shape) ≡ true = passed_at is_usual general_rows row.place (word, shape) usual_rows row.there in
+    let parts = both_true (not shape.vex) (not (shape.w == 0) || is_move_by_condition shape.op) usual in
+    (not-true shape.vex parts.0, ⊎_elim (λ (h : not (shape.w == 0) ≡ true). inl (not-true (shape.w == 0) h)) (λ (h : is_move_by_condition shape.op ≡ true). inr h) (either_true _ _ parts.1))
+
+-- the words of moves by condition
+stem : Cond → List ℕ
+stem E = codes "cmove"
+stem Ne = codes "cmovne"
+stem B = codes "cmovb"
+stem Ae = codes "cmovae"
+stem Be = codes "cmovbe"
+stem A = codes "cmova"
+stem L = codes "cmovl"
+stem Ge = codes "cmovge"
+stem Le = codes "cmovle"
+stem G = codes "cmovg"
+stem S = codes "cmovs"
+stem Ns = codes "cmovns"
+stem O = codes "cmovo"
+stem No = codes "cmovno"
+stem P = codes "cmovp"
+stem Np = codes "cmovnp"
+
+move_of_16 : (c : Cond) → named general_rows (stem c ++ codes "w") ≡ Some (general (Cmov c) 16)
+unfolding general_rows add_to_cltq cmova_to_cmovnc cmovne_to_cmovz cmp_to_lea mov_to_sar set_rows shl_to_xor stem
+move_of_16 E = refl
+move_of_16 Ne = refl
+move_of_16 B = refl
+move_of_16 Ae = refl
+move_of_16 Be = refl
+move_of_16 A = refl
+move_of_16 L = refl
+move_of_16 Ge = refl
+move_of_16 Le = refl
+move_of_16 G = refl
+move_of_16 S = refl
+move_of_16 Ns = refl
+move_of_16 O = refl
+move_of_16 No = refl
+move_of_16 P = refl
+move_of_16 Np = refl
+
+move_of_32 : (c : Cond) → named general_rows (stem c ++ codes "l") ≡ Some (general (Cmov c) 32)
+unfolding general_rows add_to_cltq cmova_to_cmovnc cmovne_to_cmovz cmp_to_lea mov_to_sar set_rows shl_to_xor stem
+move_of_32 E = refl
+move_of_32 Ne = refl
+move_of_32 B = refl
+move_of_32 Ae = refl
+move_of_32 Be = refl
+move_of_32 A = refl
+move_of_32 L = refl
+move_of_32 Ge = refl
+move_of_32 Le = refl
+move_of_32 G = refl
+move_of_32 S = refl
+move_of_32 Ns = refl
+move_of_32 O = refl
+move_of_32 No = refl
+move_of_32 P = refl
+move_of_32 Np = refl
+
+move_of_64 : (c : Cond) → named general_rows (stem c ++ codes "q") ≡ Some (general (Cmov c) 64)
+unfolding general_rows add_to_cltq cmova_to_cmovnc cmovne_to_cmovz cmp_to_lea mov_to_sar set_rows shl_to_xor stem
+move_of_64 E = refl
+move_of_64 Ne = refl
+move_of_64 B = refl
+move_of_64 Ae = refl
+move_of_64 Be = refl
+move_of_64 A = refl
+move_of_64 L = refl
+move_of_64 Ge = refl
+move_of_64 Le = refl
+move_of_64 G = refl
+move_of_64 S = refl
+move_of_64 Ns = refl
+move_of_64 O = refl
+move_of_64 No = refl
+move_of_64 P = refl
+move_of_64 Np = refl
+
+-- the widths of moves by condition
+wide-cases : (w : ℕ) → has_wide_form w ≡ true → (w ≡ 16) ⊎ ((w ≡ 32) ⊎ (w ≡ 64))
+wide-cases w h =
+    ⊎_elim (λ (e : (w == 16) ≡ true). inl ((Decides-eqb w 16).0 e))
+    (λ (e : (w == 32 || w == 64) ≡ true). ⊎_elim (λ (f : (w == 32) ≡ true). inr (inl ((Decides-eqb w 32).0 f))) (λ (f : (w == 64) ≡ true). inr (inr ((Decides-eqb w 64).0 f))) (either_true _ _ e))
+    (either_true _ _ h)
+
+unfoldable HasWord : Shape → Type 0
+HasWord shape = (word : List ℕ) × IsRowOf general_rows word shape
+
+move_at : (c : Cond) (v w : ℕ) (word : List ℕ) → w ≡ v → named general_rows word ≡ Some (general (Cmov c) v) → HasWord (general (Cmov c) w)
+unfolding HasWord
+move_at c v w word e h = subst (λ (x : ℕ). (word : List ℕ) × IsRowOf general_rows word (general (Cmov c) x)) (sym e) (word, named-row word (general (Cmov c) v) h)
+
+-- each move by condition has a row with its width
+move-row : (c : Cond) (w : ℕ) → has_wide_form w ≡ true → HasWord (general (Cmov c) w)
+move-row c w h =
+    ⊎_elim (λ (e : w ≡ 16). move_at c 16 w (stem c ++ codes "w") e (move_of_16 c))
+    (λ (e : (w ≡ 32) ⊎ (w ≡ 64)). ⊎_elim (λ (f : w ≡ 32). move_at c 32 w (stem c ++ codes "l") f (move_of_32 c)) (λ (f : w ≡ 64). move_at c 64 w (stem c ++ codes "q") f (move_of_64 c)) e)
+    (wide-cases w h)
+
+judged-same : (b : Bool) (i j : Insn) → (if b then Ok i else Err BadNumber) ≡ Ok j → i ≡ j
+judged-same true i j h = cc
+judged-same false i j h = cc
+
+-- an accepted instruction is the one that is judged, and a form was found for it
+judged-ok : (found : Option Form) (i j : Insn) → judged_by found i ≡ Ok j → (i ≡ j) × ((form : Form) × (found ≡ Some form))
+judged-ok None i j h = cc
+judged-ok (Some form) i j h = (judged-same (numbers_fit i.args form) i j h, (form, refl))
+
+-- completing the operands twice is completing them once
+lone-counted : (args : List Operand) → is_lone (counted_once args) ≡ false
+lone-counted [] = refl
+lone-counted (Reg n w ∷ []) = refl
+lone-counted (Imm v ∷ []) = refl
+lone-counted (Mem base index scale disp ∷ []) = refl
+lone-counted (Vec n w ∷ []) = refl
+lone-counted (Pool at ∷ []) = refl
+lone-counted (Target place ∷ []) = refl
+lone-counted (Nothing ∷ []) = refl
+lone-counted (first ∷ second ∷ rest) = refl
+
+completed_again : (shift lone : Bool) (args : List Operand) → is_lone args ≡ lone →
+    (if shift && is_lone (if shift && is_lone args then counted_once args else args) then counted_once (if shift && is_lone args then counted_once args else args) else (if shift && is_lone args then counted_once args else args))
+    ≡ (if shift && is_lone args then counted_once args else args)
+completed_again false lone args e = refl
+completed_again true false args e = rw (e, e) refl
+completed_again true true args e = rw (e, lone-counted args) refl
+
+completed-twice : (op : Op) (args : List Operand) → completed op (completed op args) ≡ completed op args
+completed-twice op args = completed_again (is_shift op) (is_lone args) args refl
+
+-- an instruction with a width, whose operands are complete, is made of its shape and its operands
+insn-again : (i : Insn) → (i.w == 0) ≡ false → completed i.op i.args ≡ i.args → insn_of (shape_of i) i.args i.line ≡ i
+insn-again i wide complete =
+    let width : width_of (shape_of i) i.args ≡ i.w = rw wide refl in
+    (λ k. record { op = i.op; w = width k; vex = i.vex; args = complete k; line = i.line })
+
+-- what is judged good, has a word, a width and complete operands, is an instruction of the table
+of_table : (i j : Insn) → HasWord (shape_of i) → (i.w == 0) ≡ false → completed i.op i.args ≡ i.args → judged_by (form_of i) i ≡ Ok j → AllByRecursion HasRegisters j.args → IsTableInsn j
+unfolding HasWord
+of_table i j row wide complete good registers =
+    let same : i ≡ j = (judged-ok (form_of i) i j good).0 in
+    let again : fits_of (shape_of i) i.args i.line ≡ judged_by (form_of i) i = ap (λ (x : Insn). judged_by (form_of x) x) (insn-again i wide complete) in
+    subst IsTableInsn same (record {
+      word = row.0;
+      row = row.1;
+      accepted = again ∙ (good ∙ ap (λ (x : Insn). Ok x) (sym same));
+      registers = subst (λ (x : Insn). AllByRecursion HasRegisters x.args) (sym same) registers;
+    })
+
+move-known : (op : Op) → is_move_by_condition op ≡ true → (c : Cond) × (op ≡ Cmov c)
+move-known (Cmov c) h = (c, refl)
+move-known _ h = cc
+
+wide_has_width : (w : ℕ) → has_wide_form w ≡ true → (w == 0) ≡ false
+wide_has_width w h =
+    ⊎_elim (λ (e : w ≡ 16). subst (λ (x : ℕ). (x == 0) ≡ false) (sym e) refl)
+    (λ (e : (w ≡ 32) ⊎ (w ≡ 64)). ⊎_elim (λ (f : w ≡ 32). subst (λ (x : ℕ). (x == 0) ≡ false) (sym f) refl) (λ (f : w ≡ 64). subst (λ (x : ℕ). (x == 0) ≡ false) (sym f) refl) e)
+    (wide-cases w h)
+
+found_only_wide : (b : Bool) (p : Form → Bool) (form found : Form) → find p (if b then form ∷ [] else []) ≡ Some found → b ≡ true
+found_only_wide true p form found h = refl
+found_only_wide false p form found h = cc
+
+form-wide : (op : Op) (w : ℕ) (p : Form → Bool) (form : Form) → is_move_by_condition op ≡ true → find p (forms op w) ≡ Some form → has_wide_form w ≡ true
+form-wide (Cmov c) w p form move h = found_only_wide (has_wide_form w) p _ form h
+form-wide _ w p form move h = cc
+
+pub table-word : (i : Insn) → IsTableInsn i → (word : List ℕ) × (named general_rows word ≡ Some (shape_of i))
+table-word i t = (t.word, rows-named t.row.place (t.word, shape_of i) t.row.there)
+
+-- what fits answers for a shape with a width
+fitted_with_width : (shape : Shape) (args : List Operand) (line : ℕ) (word : List ℕ) (i : Insn) → IsRowOf general_rows word shape → (shape.w == 0) ≡ false
+    → fits_of shape args line ≡ Ok i → AllByRecursion HasRegisters i.args → IsTableInsn i
+unfolding HasWord
+fitted_with_width shape args line word i row wide good registers =
+    let width : width_of shape args ≡ shape.w = rw wide refl in
+    let same : shape ≡ shape_of (insn_of shape args line) = (λ k. record { op = shape.op; w = sym width k; vex = shape.vex }) in
+    of_table (insn_of shape args line) i
+    (subst (λ (x : Shape). (word : List ℕ) × IsRowOf general_rows word x) same (word, row))
+    (subst (λ (x : ℕ). (x == 0) ≡ false) (sym width) wide)
+    (completed-twice shape.op args) good registers
+
+-- what fits answers for a move by condition
+fitted_move : (shape : Shape) (args : List Operand) (line : ℕ) (i : Insn) → shape.vex ≡ false → is_move_by_condition shape.op ≡ true
+    → fits_of shape args line ≡ Ok i → AllByRecursion HasRegisters i.args → IsTableInsn i
+fitted_move shape args line i legacy move good registers =
+    let found = (judged-ok (form_of (insn_of shape args line)) (insn_of shape args line) i good).1 in
+    let wide = form-wide shape.op (width_of shape args) (takes (completed shape.op args)) found.0 move found.1 in
+    let known = move-known shape.op move in
+    let same : general (Cmov known.0) (width_of shape args) ≡ shape_of (insn_of shape args line) = (λ k. record { op = sym known.1 k; w = width_of shape args; vex = sym legacy k }) in
+    of_table (insn_of shape args line) i
+    (subst HasWord same (move-row known.0 (width_of shape args) wide))
+    (wide_has_width (width_of shape args) wide)
+    (completed-twice shape.op args) good registers
+
+fitted_with : (shape : Shape) (args : List Operand) (line : ℕ) (word : List ℕ) (i : Insn) → IsRowOf general_rows word shape → IsUsual shape → fits_of shape args line ≡ Ok i → AllByRecursion HasRegisters i.args → IsTableInsn i
+unfolding IsUsual
+fitted_with shape args line word i row usual good registers =
+    ⊎_elim (λ (wide : (shape.w == 0) ≡ false). fitted_with_width shape args line word i row wide good registers)
+    (λ (move : is_move_by_condition shape.op ≡ true). fitted_move shape args line i usual.0 move good registers) usual.1
+
+pub fitted-insn : (word : List ℕ) (shape : Shape) (args : List Operand) (line : ℕ) (i : Insn) → named general_rows word ≡ Some shape → fits_of shape args line ≡ Ok i → AllByRecursion HasRegisters i.args → IsTableInsn i
+fitted-insn word shape args line i h good registers =
+    let row = named-row word shape h in fitted_with shape args line word i row (row-usual word shape row) good registers
+
+pub ruleset words = (table-word)
+
+pub ruleset fitted = (fitted-insn)

@@ -1,0 +1,37 @@
+-- The instructions of the table.
+use Rattle.std.specs.Prelude.{◌≡◌, ◌⊎◌, ℕ, ◌<◌, List, Ok, IfSome}
+use Rattle.std.specs.List.{AllByRecursion}
+use Rattle.insn_table.specs.declared.insn.Operand.{Operand}
+use Rattle.insn_table.specs.declared.insn.Operand.TheVariants.{Reg, Imm, Mem, Vec, Pool, Target, Nothing}
+use Rattle.insn_table.specs.declared.insn.Insn.{Insn}
+use Rattle.insn_table.specs.declared.shape.Shape.{Shape}
+use Rattle.insn_table.specs.Spellings.{general_rows, IsRowOf}
+use Rattle.insn_table.specs.Forms.{fits_of}
+
+-- the shape of an instruction, which says its width
+abbrev pub shape_of : Insn → Shape
+shape_of i = record { op = i.op; w = i.w; vex = i.vex }
+
+abbrev pub IsScale : ℕ → Type 0
+IsScale s = (s ≡ 1) ⊎ ((s ≡ 2) ⊎ ((s ≡ 4) ⊎ (s ≡ 8)))
+
+-- any of the sixteen registers but the stack pointer, register 4
+abbrev pub IsIndex : ℕ → Type 0
+IsIndex n = (n < 16) × (n ≡ 4 → ⊥)
+
+-- each register of the operand is one of the sixteen, and each scale one that there is
+abbrev pub HasRegisters : Operand → Type 0
+HasRegisters (Reg n w) = n < 16
+HasRegisters (Imm v) = Unit {0}
+HasRegisters (Mem base index scale disp) = IfSome base (λ n. n < 16) × IfSome index IsIndex × IsScale scale
+HasRegisters (Vec n w) = n < 16
+HasRegisters (Pool at) = Unit {0}
+HasRegisters (Target place) = Unit {0}
+HasRegisters Nothing = Unit {0}
+
+-- a word of the table names the instruction's shape, and fits takes its operands as they are
+pub record IsTableInsn (i : Insn) : Type 0 where
+  pub word : List ℕ
+  pub row : IsRowOf general_rows word (shape_of i)
+  pub accepted : fits_of (shape_of i) i.args i.line ≡ Ok i
+  pub registers : AllByRecursion HasRegisters i.args

@@ -1,0 +1,33 @@
+//! The laws of the instruction table.
+ghost use Rattle.std.specs.Prelude.{◌≡◌, ◌≤◌, ℕ, List, Some, Ok};
+ghost use Rattle.std.specs.List.{AllByRecursion, count_by};
+ghost use Rattle.align_base.specs.declared.op.Op.{Op};
+ghost use Rattle.insn_table.specs.declared.insn.Operand.{Operand};
+ghost use Rattle.insn_table.specs.declared.insn.Insn.{Insn};
+ghost use Rattle.insn_table.specs.declared.shape.Shape.{Shape};
+ghost use Rattle.insn_table.specs.Spellings.{named, general_rows};
+ghost use Rattle.insn_table.specs.Forms.{forms, takes, fits_of};
+ghost use Rattle.insn_table.specs.Table.{shape_of, HasRegisters, IsTableInsn};
+
+/// A law: each instruction of the table has a word, which names its shape.
+#[tactic(auto, using(crate::proofs::TableInsns::words))]
+pub fn table_insns_have_words()
+    ensures { (i : Insn) → IsTableInsn i
+        → (word : List ℕ) × (named general_rows word ≡ Some (shape_of i)) }
+{}
+
+/// A law: what `fits` makes of a shape that a word names is an instruction of the table, where its
+/// registers and scales are ones that there are.
+#[tactic(auto, using(crate::proofs::TableInsns::fitted))]
+pub fn fitted_insns_are_of_the_table()
+    ensures { (word : List ℕ) (shape : Shape) (args : List Operand) (line : ℕ) (i : Insn)
+        → named general_rows word ≡ Some shape → fits_of shape args line ≡ Ok i
+        → AllByRecursion HasRegisters i.args → IsTableInsn i }
+{}
+
+/// A law: no two forms of an operation take the same operands, so the first one that takes them is the
+/// only one.
+#[tactic(auto, using(crate::proofs::Apart::apart))]
+pub fn forms_are_apart()
+    ensures { (op : Op) (w : ℕ) (args : List Operand) → count_by (takes args) (forms op w) ≤ 1 }
+{}

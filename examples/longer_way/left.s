@@ -1,0 +1,6 @@
+f:
+movq %rdi,%rax
+addq %rdi,%rax
+addq %rdi,%rax
+addq %rdi,%rax
+ret

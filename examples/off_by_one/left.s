@@ -1,0 +1,4 @@
+f:
+movq %rdi,%rax
+addq $1,%rax
+ret

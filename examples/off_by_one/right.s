@@ -1,0 +1,4 @@
+g:
+movq %rdi,%rax
+addq $2,%rax
+ret

@@ -1,0 +1,4 @@
+f:
+movq %rdi,%rax
+addq %rsi,%rax
+ret

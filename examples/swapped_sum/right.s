@@ -1,0 +1,4 @@
+g:
+movq %rsi,%rax
+addq %rdi,%rax
+ret

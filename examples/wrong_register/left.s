@@ -1,0 +1,3 @@
+f:
+movq %rdi,%rax
+ret

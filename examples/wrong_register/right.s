@@ -1,0 +1,3 @@
+g:
+movq %rsi,%rax
+ret
