@@ -12,9 +12,9 @@ use Rattle.machine.proofs.Ordering.{ordered_by_places, spanned_by_places}
 
 region_kept : (a b : Machine) (r : Region) → b.entry ≡ a.entry → b.stack ≡ a.stack → IsRegion a r → IsRegion b r
 region_kept a b r entry stack h = record {
-    fits = h.fits;
-    apart = λ at low high inside. h.apart at low high (in_stack a b at entry stack inside)
-  }
+  fits = h.fits;
+  apart = λ at low high inside. h.apart at low high (in_stack a b at entry stack inside);
+}
   where
     in_stack : (a b : Machine) (at : ℕ) → b.entry ≡ a.entry → b.stack ≡ a.stack → IsInStack b at → IsInStack a at
     in_stack a b at entry stack inside = rw (entry, stack) at inside
@@ -26,25 +26,25 @@ all_regions P Q (r ∷ rs) h a = (h r a.0, all_regions P Q rs h a.1)
 pub kept_by_places : (old new : Kept) → new.entry ≡ old.entry → new.stack ≡ old.stack → new.regions ≡ old.regions
     → places new.spans ≡ places old.spans → IsKept old → IsKept new
 kept_by_places old new entry stack regions spans h = record {
-    ordered = ordered_by_places 0 old.spans new.spans spans h.ordered;
-    regions = subst (λ (rs : List Region). AllByRecursion (IsRegion (pure_of new)) rs) (sym regions)
+  ordered = ordered_by_places 0 old.spans new.spans spans h.ordered;
+  regions = subst (λ (rs : List Region). AllByRecursion (IsRegion (pure_of new)) rs) (sym regions)
       (all_regions (IsRegion (pure_of old)) (IsRegion (pure_of new)) old.regions (λ r. region_kept (pure_of old) (pure_of new) r entry stack) h.regions);
-    spanned = subst (λ (rs : List Region). AllByRecursion (λ r. (at : ℕ) → r.base ≤ at → at < r.base + r.len → is_spanned new.spans at ≡ true) rs) (sym regions)
+  spanned = subst (λ (rs : List Region). AllByRecursion (λ r. (at : ℕ) → r.base ≤ at → at < r.base + r.len → is_spanned new.spans at ≡ true) rs) (sym regions)
       (all_regions (λ r. (at : ℕ) → r.base ≤ at → at < r.base + r.len → is_spanned old.spans at ≡ true) (λ r. (at : ℕ) → r.base ≤ at → at < r.base + r.len → is_spanned new.spans at ≡ true)
-        old.regions (λ r g at low high. spanned_by_places old.spans new.spans at spans ∙ g at low high) h.spanned);
-    stack_spanned = λ at low inside. spanned_by_places old.spans new.spans at spans ∙ h.stack_spanned at low (rw (entry, stack) at inside);
-    small = rw stack h.small
-  }
+      old.regions (λ r g at low high. spanned_by_places old.spans new.spans at spans ∙ g at low high) h.spanned);
+  stack_spanned = λ at low inside. spanned_by_places old.spans new.spans at spans ∙ h.stack_spanned at low (rw (entry, stack) at inside);
+  small = rw stack h.small;
+}
 
 -- a State after a change of registers, of flags, of the bytes of its spans or of its place
 pub held_by_places : (old new : Kept) → length new.regs ≡ 16 → new.entry ≡ old.entry → new.vecs ≡ old.vecs → new.stack ≡ old.stack
     → new.regions ≡ old.regions → places new.spans ≡ places old.spans → IsHeld old → IsHeld new
 held_by_places old new regs entry vecs stack regions spans h = record {
-    regs = regs;
-    entry = ap (λ (xs : List ℕ). length xs) entry ∙ h.entry;
-    vecs = ap (λ (xs : List (List ℕ)). length xs) vecs ∙ h.vecs;
-    kept = kept_by_places old new entry stack regions spans h.kept
-  }
+  regs = regs;
+  entry = ap (λ (xs : List ℕ). length xs) entry ∙ h.entry;
+  vecs = ap (λ (xs : List (List ℕ)). length xs) vecs ∙ h.vecs;
+  kept = kept_by_places old new entry stack regions spans h.kept;
+}
 
 first_content : (a b : ℕ × List ℕ) (more rest : List (ℕ × List ℕ)) → a ∷ more ≡ b ∷ rest → a ≡ b
 first_content a b more rest e = cc
@@ -75,6 +75,6 @@ byte_by_contents (s ∷ ss) (n ∷ ns) x e =
 pub copy_of : (k : Kept) (spans : List Span) (regions : List Region) → contents spans ≡ contents k.spans → regions ≡ k.regions
     → IsCopy k (record k { spans = spans; regions = regions })
 copy_of k spans regions same kept = record {
-    pure = λ i. record (pure_of k) { memory = λ x. byte_by_contents k.spans spans (x % 2 ^ 64) same i; regions = kept i };
-    spans = same
-  }
+  pure = λ i. record (pure_of k) { memory = λ x. byte_by_contents k.spans spans (x % 2 ^ 64) same i; regions = kept i };
+  spans = same;
+}

@@ -69,10 +69,10 @@ byte_written from (s ∷ ss) (suc i) span new x o e at len =
     let begins : s.at + length s.bytes.items ≤ span.at = order_begins (s.at + length s.bytes.items) ss i span o.2 e in
     rw (byte_written (s.at + length s.bytes.items) ss i span new x o.2 e at len)
     (other_choice (spans_address s x) (spans_address span x) (slice_index s.bytes.items (x - s.at)) (slice_index new.bytes.items (x - span.at)) (byte_of ss x)
-      (λ h. let here = addressed_from s x h in elim (spans_address span x) as (λ v. spans_address span x ≡ v → v ≡ false) [
-        true ↦ (λ t. absurd (omega (arith, here.1, (addressed_from span x t).0)))
-        | false ↦ (λ f. refl)
-      ] refl))
+    (λ h. let here = addressed_from s x h in elim (spans_address span x) as (λ v. spans_address span x ≡ v → v ≡ false) [
+      | true ↦ (λ t. absurd (omega (arith, here.1, (addressed_from span x t).0)))
+      | false ↦ (λ f. refl)
+    ] refl))
 
 pub places_written : (spans : List Span) (i : ℕ) (span new : Span) → slice_get spans i ≡ Some span
     → new.at ≡ span.at → length new.bytes.items ≡ length span.bytes.items → places (slice_set spans i new) ≡ places spans

@@ -88,13 +88,13 @@ span_written spans i at n word span new x o e from to same len bytes small =
     let y : ℕ = x - span.at in
     byte_written 0 spans i span new x o e same len
     ∙ elim (spans_address span x) as (λ v. spans_address span x ≡ v → (if v then slice_index new.bytes.items y else byte_of spans x) ≡ with_word (byte_of spans) at n word x) [
-      true ↦ (λ t.
-        let here = addressed_from span x t in
-        let low : span.at ≤ x = here.0 in
-        let old : byte_of spans x ≡ slice_index span.bytes.items y = byte_within 0 spans i span x o e here.0 here.1 in
-        bytes y ∙ rw old (inside_choice f (slice_index span.bytes.items y) (at - span.at) y (offset_from at x) n (λ h. omega arith) (λ h. omega arith)))
+      | true ↦ (λ t.
+          let here = addressed_from span x t in
+          let low : span.at ≤ x = here.0 in
+          let old : byte_of spans x ≡ slice_index span.bytes.items y = byte_within 0 spans i span x o e here.0 here.1 in
+          bytes y ∙ rw old (inside_choice f (slice_index span.bytes.items y) (at - span.at) y (offset_from at x) n (λ h. omega arith) (λ h. omega arith)))
       | false ↦ (λ t.
-        outside_choice f (byte_of spans x) (offset_from at x) n (outside_offset span.at (length span.bytes.items) at n x (not_addressed_from span x t) from to ends small))
+          outside_choice f (byte_of spans x) (offset_from at x) n (outside_offset span.at (length span.bytes.items) at n x (not_addressed_from span x t) from to ends small))
     ] refl
 
 pub ruleset written = (memory_written)

@@ -8,9 +8,15 @@ use Rattle.machine.specs.Kept.{IsKept, Kept}
 
 abbrev pub kept_of : Inside → Kept
 kept_of s = record {
-    regs = s.regs; entry = s.entry; flags = s.flags; vecs = map (λ (v : Bytes32). v.bytes) s.vecs;
-    spans = s.spans.items; regions = s.regions.items; stack = s.stack; place = s.place
-  }
+  regs = s.regs;
+  entry = s.entry;
+  flags = s.flags;
+  vecs = map (λ (v : Bytes32). v.bytes) s.vecs;
+  spans = s.spans.items;
+  regions = s.regions.items;
+  stack = s.stack;
+  place = s.place;
+}
 
 -- sixteen registers now and at the entry, sixteen vectors, and a kept state
 pub record IsHeld (k : Kept) : Type 0 where

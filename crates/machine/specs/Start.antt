@@ -9,9 +9,15 @@ use Rattle.machine.specs.Machine.{no_flags}
 -- the start state with these registers, vectors, spans, regions and number of declared stack bytes
 abbrev pub kept_start : List ℕ → List Bytes32 → List Span → List Region → ℕ → Kept
 kept_start regs vecs spans regions stack = record {
-    regs = regs; entry = regs; flags = no_flags; vecs = map (λ (v : Bytes32). v.bytes) vecs;
-    spans = spans; regions = regions; stack = stack; place = 0
-  }
+  regs = regs;
+  entry = regs;
+  flags = no_flags;
+  vecs = map (λ (v : Bytes32). v.bytes) vecs;
+  spans = spans;
+  regions = regions;
+  stack = stack;
+  place = 0;
+}
 
 -- what spans hold: their addresses and bytes
 abbrev pub contents : List Span → List (ℕ × List ℕ)

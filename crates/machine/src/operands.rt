@@ -6,8 +6,8 @@ ghost use Rattle.machine.specs.Operands as operands;
 ghost use Rattle.machine.specs.Runnable.{IsWidth};
 ghost use Rattle.machine.specs.Step as steps;
 
-use insn_table::{Insn, Op, Operand};
 use align_base::Cond;
+use insn_table::{Insn, Op, Operand};
 
 /// The operations that a step runs alike.
 #[derive(Clone, Copy, Debug, PartialEq, Eq)]
@@ -143,7 +143,11 @@ pub fn destination(insn: &Insn) -> Operand
 {
     match insn.op {
         Op::Cltq => Operand::Reg { n: 0, w: 64 },
-        _ => if arity(insn) == 1 { operand(insn, 0) } else { operand(insn, 1) },
+        _ => if arity(insn) == 1 {
+            operand(insn, 0)
+        } else {
+            operand(insn, 1)
+        },
     }
 }
 

@@ -227,9 +227,8 @@ impl State {
     fn may_access(&self, at: u64, bytes: u32, write: bool) -> bool
         ensures { result ≡ access.is_allowed (pure_of self.now) (record { at = at; bytes = bytes; write = write }) }
     {
-        self.regions
-            .iter()
-            .any(|region| (!write || region.write) && has_access(region, at, bytes as u64))
+        self.regions.iter().any(|region| (!write || region.write)
+            && has_access(region, at, bytes as u64))
     }
 
     // Whether operand `k` may be accessed, if it is in memory.

@@ -13,7 +13,7 @@ invariant_of-result c =
     let new : Kept = record old { spans = c.in_ok-spans.spans.items; regions = c.in-Ok.regions.items } in
     let same = c.in_ok-spans.ensures ∙ ap (λ (spans : List Span). contents spans) c.deref.ensures.value in
     held_by_places old new c.self.invariant.regs refl refl refl (c.in-Ok.ensures.items ∙ c.deref-2.ensures.value)
-      (places_by_contents old.spans new.spans same) c.self.invariant
+    (places_by_contents old.spans new.spans same) c.self.invariant
 
 pub returns : goal.returns
 returns c =
@@ -21,4 +21,4 @@ returns c =
     let new : Kept = record old { spans = c.in_ok-spans.spans.items; regions = c.in-Ok.regions.items } in
     let same = c.in_ok-spans.ensures ∙ ap (λ (spans : List Span). contents spans) c.deref.ensures.value in
     subst (λ (k : Kept). IsCopy k new) c.self.view_is
-      (copy_of old new.spans new.regions same (c.in-Ok.ensures.items ∙ c.deref-2.ensures.value))
+    (copy_of old new.spans new.regions same (c.in-Ok.ensures.items ∙ c.deref-2.ensures.value))
