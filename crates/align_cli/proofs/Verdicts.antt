@@ -1,12 +1,12 @@
 -- From sums to verdicts: plain functions whose sums agree are equivalent, and registers that tell the sums apart
 -- make a state from which the functions end differently.
-use Rattle.std.proofs.Common.{◌≡◌, inl, inr, ⊎_elim, ℕ, zero, suc, ◌*◌, ◌≤◌, ◌<◌, List, [], Some, slice_get, length, set, replicate, get_or, refl, sym, ◌∙◌, max, slice_index, arith}
+use Rattle.std.proofs.Common.{◌≡◌, inl, inr, ⊎_elim, ℕ, zero, suc, ◌*◌, ◌≤◌, ◌<◌, List, [], Some, slice_get, length, set, replicate, get_or, refl, sym, ap, ◌∙◌, max, slice_index, arith}
 use Rattle.std.proofs.Math.ListN.{length-set}
 use Rattle.insn_table.specs.Plain.{IsPlain}
 use Rattle.insn_table.specs.declared.insn.Insn.{Insn}
-use Rattle.machine.specs.Machine.{AreRegs, AreVecs, IsPlainStart, Machine}
+use Rattle.machine.specs.Machine.{AreRegs, AreVecs, IsPlainStart}
 use Rattle.machine.specs.Straight.{regs_through}
-use Rattle.machine.proofs.PlainLaws.{plain_end, plain_ends, plain_moves, plain_never_faults, plain-equivalent}
+use Rattle.machine.proofs.PlainLaws.{plain_end, plain_end-regs, plain_ends, plain_moves, plain_never_faults, plain-equivalent}
 use Rattle.align_cli.specs.declared.sums.Sum.{Sum}
 use Rattle.align_cli.specs.Headline.{AgreeFrom, IsShown, ReportsDifferent, ReportsEquivalent, ReturnsFrom}
 use Rattle.align_cli.specs.Report.{different_report, equivalent_report}
@@ -50,7 +50,7 @@ one_are : (n : ℕ) → AreRegs (one_register n)
 one_are n = record { sixteen = length-set no_register n 1; below = λ j. omega (arith, at_most_one 16 n j) }
 
 replicated : (k n : ℕ) (x v : List ℕ) → slice_get (replicate k x) n ≡ Some v → v ≡ x
-replicated zero n x v e = absurd e
+replicated zero n x v e = cc
 replicated (suc k) zero x v e = cc
 replicated (suc k) (suc n) x v e = replicated k n x v e
 
@@ -78,7 +78,11 @@ start_from regs are = record {
 }
 
 returns_from : (f : List Insn) (p : IsPlain f) (a : Sum) (regs : List ℕ) (value : ℕ) → LeavesInRax f a → AreRegs regs → value ≡ sum_value a regs → ReturnsFrom regs f value
-returns_from f p a regs value h are is = (plain_end [] p (start_at regs), plain_ends f [] p (start_at regs) (start_from regs are), leaves f p a regs h are ∙ sym is)
+returns_from f p a regs value h are is = (
+  plain_end [] p (start_at regs),
+  plain_ends f [] p (start_at regs) (start_from regs are),
+  ap (λ (after : List ℕ). slice_index after 0) (plain_end-regs [] p (start_at regs)) ∙ leaves f p a regs h are ∙ sym is,
+)
 
 agree_from : (f g : List Insn) (a b : Sum) (regs : List ℕ) → IsPlain f → IsPlain g → LeavesInRax f a → LeavesInRax g b → AreRegs regs
     → sum_value a regs ≡ sum_value b regs → AgreeFrom regs f g
