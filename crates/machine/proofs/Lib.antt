@@ -1,4 +1,8 @@
+pub mod Allowed
 pub mod Bytewise
-pub mod Keeping
+pub mod Families
+pub mod KeptStates
 pub mod Ordering
+pub mod RowValues
+pub mod Targets
 pub mod Words
