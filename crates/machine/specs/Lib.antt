@@ -1,6 +1,7 @@
 pub mod Access
 pub mod Equivalent
 pub mod Family
+pub mod Frame
 pub mod Holding
 pub mod Kept
 pub mod Machine

@@ -3,7 +3,7 @@
 --
 -- Registers, flags and vectors are those of Intel's Software Developer's Manual. Regions, the stack range and the
 -- rule for stack bytes are this project's own.
-use Rattle.std.specs.Prelude.{◌≡◌, ℕ, ◌+◌, ◌-◌, ◌^◌, ◌%◌, ◌<◌, ◌≤◌, List, [], length, Option, None, slice_get, slice_index, Some}
+use Rattle.std.specs.Prelude.{◌≡◌, ℕ, ◌+◌, ◌-◌, ◌^◌, ◌%◌, ◌<◌, List, [], length, None, slice_get, slice_index, Some}
 use Rattle.align_base.specs.declared.op.Flags.{Flags}
 use Rattle.machine.specs.declared.state.Region.{Region}
 

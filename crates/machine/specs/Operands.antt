@@ -1,6 +1,6 @@
 -- What operands hold, and what a write to one leaves. A general register of 32 bits that is written clears the upper
 -- half; one of 16 or 8 bits leaves the other bits (Intel SDM volume 1, 3.4.1.1).
-use Rattle.std.specs.Prelude.{ℕ, ◌+◌, ◌-◌, ◌*◌, ◌/◌, ◌%◌, ◌^◌, ◌==◌, ◌||◌, Bool, List, Option, Some, None, slice_get, slice_index, slice_set, unwrap_or, ℤ, pos, negsuc, if◌then◌else◌}
+use Rattle.std.specs.Prelude.{ℕ, ◌+◌, ◌-◌, ◌*◌, ◌/◌, ◌%◌, ◌^◌, ◌==◌, ◌||◌, List, Option, Some, None, slice_get, slice_index, slice_set, unwrap_or, ℤ, pos, negsuc, if◌then◌else◌}
 use Rattle.insn_table.specs.declared.insn.Insn.{Insn}
 use Rattle.insn_table.specs.declared.insn.Operand.{Operand}
 use Rattle.insn_table.specs.declared.insn.Operand.TheVariants.{Reg, Imm, Mem, Vec, Pool, Target, Nothing}

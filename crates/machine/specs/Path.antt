@@ -1,12 +1,13 @@
 -- What a run does along a path of places and on into the next place, over states of any kind.
-use Rattle.std.specs.Prelude.{ℕ, ◌==◌, Bool, true, ◌&&◌, List, [], ◌∷◌, Option, Some, None, if◌then◌else◌}
-use Rattle.machine.specs.Run.{Step, Goes, Returns, Faults, MeetsUnset}
+use Rattle.std.specs.Prelude.{◌≡◌, ℕ, ◌==◌, Bool, true, ◌&&◌, List, [], ◌∷◌, Option, Some, None, if◌then◌else◌}
+use Rattle.machine.specs.Run.{Step, Goes, Returns, Faults, MeetsUnset, run_of}
+use Rattle.machine.specs.declared.state.RunEnd.TheVariants.{Faulted}
 
 pub data Way (S : Type 0) : Type 0 where
-  Through : S → Way S      -- each step of the path was taken, and it stands at the next place
-  Back : S → Way S         -- it returned at the path's last place, and no place follows
-  Fell : Way S             -- it faulted at one of the path's places
-  Off : Way S              -- none of these
+  Through : S → Way S  -- each step of the path was taken, and it stands at the next place
+  Back : S → Way S  -- it returned at the path's last place, and no place follows
+  Fell : Way S  -- it faulted at one of the path's places
+  Off : Way S  -- none of these
 
 -- the end of a path
 abbrev pub rested : {S : Type 0} → (S → ℕ) → Option ℕ → S → Way S
@@ -49,3 +50,9 @@ Arrived (Through t) = Unit {0}
 Arrived (Back t) = Unit {0}
 Arrived Fell = ⊥
 Arrived Off = ⊥
+
+-- a run that faults within n steps
+pub record FallsWithin {S : Type 0} (step : S → Step S) (s : S) (n : ℕ) : Type 0 where
+  pub at : S
+  pub number : ℕ
+  pub run : run_of step s n ≡ (at, Faulted number)

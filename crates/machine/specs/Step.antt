@@ -4,12 +4,11 @@
 -- What a row computes and which flags it leaves is said in instruction_semantics, with the sections of Intel's Software
 -- Developer's Manual, volume 2.
 use Rattle.std.specs.Prelude.{ℕ, zero, suc, ◌+◌, ◌-◌, ◌==◌, Bool, true, false, List, Option, Some, None, slice_get, slice_index, slice_set, if◌then◌else◌}
-use Rattle.align_base.specs.declared.op.Cond.{Cond}
 use Rattle.align_base.specs.declared.op.Op.{Op}
 use Rattle.align_base.specs.declared.op.Op.TheVariants as ops
 use Rattle.insn_table.specs.declared.insn.Insn.{Insn}
 use Rattle.insn_table.specs.declared.insn.Operand.{Operand}
-use Rattle.insn_table.specs.declared.insn.Operand.TheVariants.{Reg, Imm, Mem, Vec, Pool, Target, Nothing}
+use Rattle.insn_table.specs.declared.insn.Operand.TheVariants.{Reg, Target}
 use Rattle.instruction_semantics.specs.Words.{bit}
 use Rattle.instruction_semantics.specs.Exprs.{value}
 use Rattle.instruction_semantics.specs.Rows.{row_expr}
@@ -63,7 +62,7 @@ abbrev pub after_row : List ℕ → Insn → Machine → ℕ → Machine
 after_row pool i s cond =
     record (with_result pool i s cond) {
       flags = flags_after i.op i.w (destination_value pool i s) (source_value pool i.op i s) s.flags;
-      place = s.place + 1
+      place = s.place + 1;
     }
 
 -- the place that a jump goes to
@@ -86,7 +85,7 @@ pushed i s =
     record s {
       regs = slice_set s.regs 4 below;
       memory = with_word s.memory below 8 (slice_index s.regs (register_number (operand i 0)));
-      place = s.place + 1
+      place = s.place + 1;
     }
 
 -- POP into the stack pointer leaves the value read
@@ -95,7 +94,7 @@ popped i s =
     let above = address_plus (stack_pointer s) 8 in
     record s {
       regs = slice_set (slice_set s.regs 4 above) (register_number (operand i 0)) (word_at s.memory (stack_pointer s) 8);
-      place = s.place + 1
+      place = s.place + 1;
     }
 
 -- what a condition's value leads to; a flag that is unset is met

@@ -1,8 +1,12 @@
-//! The machine that runs functions, one step at a time.
+//! The machine that runs functions, one step at a time, and laws of runs and steps.
 #![tactic(auto)]
 
+mod laws;
 mod operands;
 mod spans;
 mod state;
 
+pub use laws::{
+    path_law, plain_functions_agree, plain_functions_return, run_law, step_frame_law, way_law,
+};
 pub use state::{Region, RunEnd, Span, State, StepEnd};
