@@ -13,6 +13,7 @@ pub mod PlainLaws
 pub mod PlainRuns
 pub mod Returning
 pub mod RowValues
+pub mod RunEnds
 pub mod Runs
 pub mod Targets
 pub mod Words

@@ -5,6 +5,7 @@ ghost use Rattle.machine.specs.Family.{completed, goes, holds_of, insn_step, IsR
 ghost use Rattle.machine.specs.Machine.{offset_from};
 ghost use Rattle.machine.specs.Operands as operands;
 ghost use Rattle.machine.specs.Spanned.{IsSpanned};
+ghost use Rattle.machine.specs.Run.{run_of};
 ghost use Rattle.machine.specs.Step as steps;
 ghost use Rattle.machine.specs.Stepping.{StepsAs};
 ghost use Rattle.instruction_semantics.specs.Words.{bit};
@@ -504,6 +505,24 @@ impl State {
     {
         let insn = f.insns.as_slice()[self.place as usize];
         self.run_insn(f.pool.as_slice(), &insn)
+    }
+
+    /// Runs the function for at most `n` steps.
+    pub fn run(&mut self, f: &Function, n: u64) -> RunEnd
+        requires function { IsRunnableFunction f.now.insns }
+        requires inside { self.old.place < length f.now.insns }
+        ensures runs { run_of (steps.step_of f.now.insns f.now.pool) (pure_of self.old) n ≡ (pure_of self.new, result) }
+        ensures inside { self.new.place < length f.now.insns }
+    {
+        for i in 0..n {
+            match self.step(f) {
+                StepEnd::Next => {}
+                StepEnd::Return => return RunEnd::Returned(i + 1),
+                StepEnd::Fault => return RunEnd::Faulted(i + 1),
+                StepEnd::Unset => return RunEnd::Unset(i + 1),
+            }
+        }
+        RunEnd::Running
     }
 }
 
