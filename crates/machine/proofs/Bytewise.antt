@@ -1,5 +1,5 @@
 -- Words of up to eight bytes, by their bytes.
-use Rattle.std.proofs.Common.{◌≡◌, ℕ, zero, suc, ◌+◌, ◌-◌, ◌*◌, ◌/◌, ◌%◌, ◌^◌, ◌<◌, ◌≤◌, refl, sym, ◌∙◌, ap, arith, add-one, lit<}
+use Rattle.std.proofs.Common.{◌≡◌, ℕ, zero, suc, ◌+◌, ◌*◌, ◌%◌, ◌^◌, ◌<◌, ◌≤◌, refl, ◌∙◌, ap, arith, add-one, lit<}
 use Rattle.std.proofs.lemmas.Nat.{shl_whole, pow-add}
 use Rattle.std.proofs.Math.Nat.{pow-suc, pow-le-pow_right}
 

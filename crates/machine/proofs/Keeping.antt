@@ -1,80 +1,73 @@
--- What keeps a state kept: the same spans in place, the same regions, the same entry and stack.
-use Rattle.std.proofs.Common.{◌≡◌, ℕ, ◌+◌, ◌<◌, ◌≤◌, ◌^◌, ◌%◌, Bool, true, List, [], ◌∷◌, length, slice_index, refl, sym, ◌∙◌, ap, subst, arith}
+-- Registers stay registers of 64 bits: sixteen of them, each below 2^64.
+use Rattle.std.proofs.Common.{◌≡◌, ℕ, ◌^◌, ◌<◌, inl, inr, List, [], ◌∷◌, length, slice_get, slice_index, slice_set, unwrap_or, subst, sym, arith}
+use Rattle.std.proofs.Math.ListN.{length-set}
 use Rattle.std.specs.List.{AllByRecursion}
-use Rattle.machine.specs.declared.state.Region.{Region}
-use Rattle.machine.specs.declared.state.Span.{Span}
-use Rattle.machine.specs.Holding.{IsHeld}
-use Rattle.machine.specs.Kept.{IsKept, IsRegion, Kept, byte_of, is_spanned, memory_of, pure_of, spans_address}
-use Rattle.machine.specs.Machine.{IsInStack, Machine}
-use Rattle.machine.specs.Spans.{places}
-use Rattle.machine.specs.Start.{IsCopy, contents}
-use Rattle.machine.proofs.Ordering.{ordered_by_places, spanned_by_places}
+use Rattle.std.proofs.lemmas.Grind.{common_steps}
+use Rattle.align_base.specs.declared.op.Op.{Op}
+use Rattle.align_base.specs.declared.op.Op.TheVariants.{Mov, Add, Sub}
+use Rattle.insn_table.specs.declared.insn.Operand.{Operand}
+use Rattle.insn_table.specs.declared.insn.Operand.TheVariants.{Reg, Imm, Mem, Vec, Pool, Target, Nothing}
+use Rattle.insn_table.specs.declared.insn.Insn.{Insn}
+use Rattle.insn_table.specs.Plain.{IsPlainMove}
+use Rattle.insn_table.specs.Sound.{IsMoveOf, IsRegister, IsSignedWord, IsSource}
+use Rattle.machine.specs.Machine.{AreRegs}
+use Rattle.machine.specs.Operands.{operand}
+use Rattle.machine.specs.Straight.{computed, regs_after, regs_through, value_at, written}
 
-region_kept : (a b : Machine) (r : Region) → b.entry ≡ a.entry → b.stack ≡ a.stack → IsRegion a r → IsRegion b r
-region_kept a b r entry stack h = record {
-  fits = h.fits;
-  apart = λ at low high inside. h.apart at low high (in_stack a b at entry stack inside);
+pub signed-below : (v : ℕ) → IsSignedWord v → v < 2 ^ 64
+signed-below v (inl small) = omega arith
+signed-below v (inr large) = large.1
+
+value-below : (o : Operand) (regs : List ℕ) → IsSource o → AreRegs regs → value_at regs o < 2 ^ 64
+value-below (Reg n w) regs is all = all.below n
+value-below (Imm v) regs is all = signed-below v is
+value-below (Mem base index scale disp) regs is all = absurd is
+value-below (Vec n w) regs is all = absurd is
+value-below (Pool n) regs is all = absurd is
+value-below (Target n) regs is all = absurd is
+value-below Nothing regs is all = absurd is
+
+computed-below : (o : Op) (old value : ℕ) → old < 2 ^ 64 → value < 2 ^ 64 → computed o old value < 2 ^ 64
+computed-below Mov old value h k = k
+computed-below Add old value h k = omega arith
+computed-below Sub old value h k = omega arith
+computed-below _ old value h k = h
+
+set-below : (regs : List ℕ) (r v n : ℕ) → r < length regs → v < 2 ^ 64 → slice_index regs n < 2 ^ 64 → slice_index (slice_set regs r v) n < 2 ^ 64
+set-below regs r v n within small h = grind (arith, common_steps)
+
+written-regs : (o : Operand) (regs : List ℕ) (v : ℕ) → IsRegister o → AreRegs regs → v < 2 ^ 64 → AreRegs (written regs o v)
+written-regs (Reg r w) regs v is all small = record {
+  sixteen = simp length-set all.sixteen;
+  below = λ n. set-below regs r v n (omega (arith, all.sixteen, is.0)) small (all.below n);
 }
-  where
-    in_stack : (a b : Machine) (at : ℕ) → b.entry ≡ a.entry → b.stack ≡ a.stack → IsInStack b at → IsInStack a at
-    in_stack a b at entry stack inside = rw (entry, stack) at inside
+written-regs (Imm a) regs v is all small = absurd is
+written-regs (Mem base index scale disp) regs v is all small = absurd is
+written-regs (Vec n w) regs v is all small = absurd is
+written-regs (Pool n) regs v is all small = absurd is
+written-regs (Target n) regs v is all small = absurd is
+written-regs Nothing regs v is all small = absurd is
 
-all_regions : (P Q : Region → Type 0) (rs : List Region) → ((r : Region) → P r → Q r) → AllByRecursion P rs → AllByRecursion Q rs
-all_regions P Q [] h a = tt
-all_regions P Q (r ∷ rs) h a = (h r a.0, all_regions P Q rs h a.1)
+-- a register can be a source
+source_too : (o : Operand) → IsRegister o → IsSource o
+source_too (Reg n w) is = is
+source_too (Imm v) is = absurd is
+source_too (Mem base index scale disp) is = absurd is
+source_too (Vec n w) is = absurd is
+source_too (Pool n) is = absurd is
+source_too (Target n) is = absurd is
+source_too Nothing is = absurd is
 
-pub kept_by_places : (old new : Kept) → new.entry ≡ old.entry → new.stack ≡ old.stack → new.regions ≡ old.regions
-    → places new.spans ≡ places old.spans → IsKept old → IsKept new
-kept_by_places old new entry stack regions spans h = record {
-  ordered = ordered_by_places 0 old.spans new.spans spans h.ordered;
-  regions = subst (λ (rs : List Region). AllByRecursion (IsRegion (pure_of new)) rs) (sym regions)
-      (all_regions (IsRegion (pure_of old)) (IsRegion (pure_of new)) old.regions (λ r. region_kept (pure_of old) (pure_of new) r entry stack) h.regions);
-  spanned = subst (λ (rs : List Region). AllByRecursion (λ r. (at : ℕ) → r.base ≤ at → at < r.base + r.len → is_spanned new.spans at ≡ true) rs) (sym regions)
-      (all_regions (λ r. (at : ℕ) → r.base ≤ at → at < r.base + r.len → is_spanned old.spans at ≡ true) (λ r. (at : ℕ) → r.base ≤ at → at < r.base + r.len → is_spanned new.spans at ≡ true)
-      old.regions (λ r g at low high. spanned_by_places old.spans new.spans at spans ∙ g at low high) h.spanned);
-  stack_spanned = λ at low inside. spanned_by_places old.spans new.spans at spans ∙ h.stack_spanned at low (rw (entry, stack) at inside);
-  small = rw stack h.small;
-}
+pub move_keeps_regs : (i : Insn) (source target : Operand) (regs : List ℕ) → IsMoveOf i source target → AreRegs regs → AreRegs (regs_after i regs)
+move_keeps_regs i source target regs m all =
+    let first : source ≡ operand i 0 = λ j. unwrap_or (slice_get (sym m.args j) 0) Nothing in
+    let second : target ≡ operand i 1 = λ j. unwrap_or (slice_get (sym m.args j) 1) Nothing in
+    let reads = subst IsSource first m.reads in
+    let writes = subst IsRegister second m.writes in
+    written-regs (operand i 1) regs _ writes all
+    (computed-below i.op _ _ (value-below (operand i 1) regs (source_too (operand i 1) writes) all) (value-below (operand i 0) regs reads all))
 
--- a State after a change of registers, of flags, of the bytes of its spans or of its place
-pub held_by_places : (old new : Kept) → length new.regs ≡ 16 → new.entry ≡ old.entry → new.vecs ≡ old.vecs → new.stack ≡ old.stack
-    → new.regions ≡ old.regions → places new.spans ≡ places old.spans → IsHeld old → IsHeld new
-held_by_places old new regs entry vecs stack regions spans h = record {
-  regs = regs;
-  entry = ap (λ (xs : List ℕ). length xs) entry ∙ h.entry;
-  vecs = ap (λ (xs : List (List ℕ)). length xs) vecs ∙ h.vecs;
-  kept = kept_by_places old new entry stack regions spans h.kept;
-}
-
-first_content : (a b : ℕ × List ℕ) (more rest : List (ℕ × List ℕ)) → a ∷ more ≡ b ∷ rest → a ≡ b
-first_content a b more rest e = cc
-
-more_contents : (a b : ℕ × List ℕ) (more rest : List (ℕ × List ℕ)) → a ∷ more ≡ b ∷ rest → more ≡ rest
-more_contents a b more rest e = cc
-
-pub places_by_contents : (old new : List Span) → contents new ≡ contents old → places new ≡ places old
-places_by_contents [] [] e = refl
-places_by_contents [] (n ∷ ns) e = cc
-places_by_contents (s ∷ ss) [] e = cc
-places_by_contents (s ∷ ss) (n ∷ ns) e =
-    let first = first_content (n.at, n.bytes.items) (s.at, s.bytes.items) (contents ns) (contents ss) e in
-    let more = more_contents (n.at, n.bytes.items) (s.at, s.bytes.items) (contents ns) (contents ss) e in
-    λ i. ((first i).0, length (first i).1) ∷ places_by_contents ss ns more i
-
-pub byte_by_contents : (old new : List Span) (x : ℕ) → contents new ≡ contents old → byte_of new x ≡ byte_of old x
-byte_by_contents [] [] x e = refl
-byte_by_contents [] (n ∷ ns) x e = cc
-byte_by_contents (s ∷ ss) [] x e = cc
-byte_by_contents (s ∷ ss) (n ∷ ns) x e =
-    let first = first_content (n.at, n.bytes.items) (s.at, s.bytes.items) (contents ns) (contents ss) e in
-    let more = more_contents (n.at, n.bytes.items) (s.at, s.bytes.items) (contents ns) (contents ss) e in
-    let at : n.at ≡ s.at = ap (λ (p : ℕ × List ℕ). p.0) first in
-    let bytes : n.bytes.items ≡ s.bytes.items = ap (λ (p : ℕ × List ℕ). p.1) first in
-    rw (at, bytes, byte_by_contents ss ns x more) refl
-
-pub copy_of : (k : Kept) (spans : List Span) (regions : List Region) → contents spans ≡ contents k.spans → regions ≡ k.regions
-    → IsCopy k (record k { spans = spans; regions = regions })
-copy_of k spans regions same kept = record {
-  pure = λ i. record (pure_of k) { memory = λ x. byte_by_contents k.spans spans (x % 2 ^ 64) same i; regions = kept i };
-  spans = same;
-}
+pub moves_keep_regs : (moves : List Insn) (regs : List ℕ) → AllByRecursion IsPlainMove moves → AreRegs regs → AreRegs (regs_through moves regs)
+moves_keep_regs [] regs each all = all
+moves_keep_regs (i ∷ is) regs each all =
+    moves_keep_regs is (regs_after i regs) each.1 (move_keeps_regs i each.0.source each.0.target regs each.0.move all)

@@ -15,7 +15,7 @@ use Rattle.machine.specs.Machine.{AreRegs, Machine}
 use Rattle.machine.specs.Run.{Step, Goes}
 use Rattle.machine.specs.Step.{allows_at, destination_value, free_at, free_by, source_value, step_of, tested}
 use Rattle.machine.specs.Straight.{regs_after}
-use Rattle.machine.proofs.PlainRegs.{signed-below}
+use Rattle.machine.proofs.Keeping.{signed-below}
 
 -- the state after a plain move
 abbrev pub moved : List ℕ → Insn → Machine → Machine

@@ -1,13 +1,10 @@
 -- Reads and writes of spans that are in order and apart.
-use Rattle.std.proofs.Common.{◌≡◌, ℕ, zero, suc, ◌+◌, ◌-◌, ◌*◌, ◌/◌, ◌%◌, ◌^◌, ◌<◌, ◌≤◌, Bool, true, false, List, [], ◌∷◌, length, slice_get, slice_index, slice_set, nat_le, nat_lt, ◌&&◌, ◌==◌, if◌then◌else◌, Option, Some, None, refl, sym, ◌∙◌, ap, subst, arith, ◌⊎◌}
+use Rattle.std.proofs.Common.{◌≡◌, ℕ, zero, suc, ◌+◌, ◌-◌, ◌^◌, ◌<◌, ◌≤◌, Bool, true, false, List, [], ◌∷◌, length, slice_get, slice_index, slice_set, if◌then◌else◌, Some, refl, ap, subst, arith, ◌⊎◌}
 use Rattle.std.proofs.lemmas.Grind.{common_steps}
 use Rattle.std.proofs.lemmas.Bool.Decides.{nat_tests}
-use Rattle.std.proofs.Math.Nat.{mod-add-mod, add-mod-mod, mod-mod}
 use Rattle.machine.specs.declared.state.Span.{Span}
-use Rattle.machine.specs.Kept.{AreOrdered, byte_of, is_spanned, memory_of, spans_address}
-use Rattle.machine.specs.Machine.{address_plus, offset_from}
-use Rattle.machine.specs.Memory.{word_at, with_word}
-use Rattle.machine.specs.Spans.{HasBytes, places}
+use Rattle.machine.specs.Kept.{AreOrdered, byte_of, is_spanned, spans_address}
+use Rattle.machine.specs.Spans.{places}
 
 pub addressed : (span : Span) (x : ℕ) → span.at ≤ x → x < span.at + length span.bytes.items → spans_address span x ≡ true
 addressed span x from to = grind (arith, common_steps)

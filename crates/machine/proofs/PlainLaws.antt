@@ -9,7 +9,7 @@ use Rattle.machine.specs.Run.{run_of, end_of}
 use Rattle.machine.specs.Step.{step_of}
 use Rattle.machine.specs.Straight.{regs_through, OnlyReturns}
 use Rattle.machine.specs.declared.state.RunEnd.TheVariants.{Returned, Faulted, Unset}
-use Rattle.machine.proofs.PlainRegs.{moves_keep_regs}
+use Rattle.machine.proofs.Keeping.{moves_keep_regs}
 use Rattle.machine.proofs.PlainRuns.{plain-returns, state_through, through_frame, through-memory, through-regs}
 use Rattle.machine.proofs.Returning.{returned_only, never_faulted, never_unset, returning_equivalent}
 

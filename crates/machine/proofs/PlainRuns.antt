@@ -16,7 +16,7 @@ use Rattle.machine.specs.Run.{Goes, Returns, run_of}
 use Rattle.machine.specs.Step.{free_by, step_of, tested}
 use Rattle.machine.specs.Straight.{computed, regs_after, regs_through, value_at, written}
 use Rattle.machine.specs.declared.state.RunEnd.TheVariants.{Returned, Running}
-use Rattle.machine.proofs.PlainRegs.{move_keeps_regs}
+use Rattle.machine.proofs.Keeping.{move_keeps_regs}
 use Rattle.machine.proofs.Moves.{moved, step_at, step_moves}
 use Rattle.machine.proofs.Runs.{one_more}
 

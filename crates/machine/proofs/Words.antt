@@ -1,24 +1,19 @@
 -- Words in spans: a read or a write within one span, and byte by byte.
-use Rattle.std.proofs.Common.{◌≡◌, ℕ, zero, suc, ◌+◌, ◌-◌, ◌*◌, ◌/◌, ◌%◌, ◌^◌, ◌<◌, ◌≤◌, Bool, true, false, List, [], ◌∷◌, length, get_or, slice_get, slice_index, slice_set, nat_le, nat_lt, ◌&&◌, ◌==◌, if◌then◌else◌, Option, Some, None, refl, sym, ◌∙◌, ap, subst, arith, ◌⊎◌, inl, inr}
-use Rattle.std.proofs.lemmas.Grind.{common_steps}
+use Rattle.std.proofs.Common.{◌≡◌, ℕ, zero, suc, ◌+◌, ◌-◌, ◌/◌, ◌%◌, ◌^◌, ◌<◌, ◌≤◌, true, false, List, length, get_or, slice_get, slice_index, slice_set, nat_le, nat_lt, ◌&&◌, if◌then◌else◌, Some, refl, sym, ◌∙◌, subst, arith, ◌⊎◌, inl, inr}
 use Rattle.std.proofs.lemmas.Bool.Decides.{nat_tests}
 use Rattle.std.proofs.lemmas.Option.{get_or_from_slice_get, slice_get_read}
-use Rattle.std.proofs.Math.Nat.{mod-add-mod, add-mod-mod, mod-mod}
 use Rattle.machine.specs.declared.state.Span.{Span}
-use Rattle.machine.specs.Kept.{AreOrdered, byte_of, is_spanned, memory_of, spans_address}
+use Rattle.machine.specs.Kept.{AreOrdered, byte_of, memory_of, spans_address}
 use Rattle.machine.specs.Machine.{address_plus, offset_from}
 use Rattle.machine.specs.Memory.{word_at, with_word}
-use Rattle.machine.specs.Spans.{HasBytes, places}
-use Rattle.machine.proofs.Ordering.{order_ends, byte_within, byte_written, addressed, addressed_from, not_addressed_from}
+use Rattle.machine.specs.Spans.{HasBytes}
+use Rattle.machine.proofs.Ordering.{order_ends, byte_within, byte_written, addressed_from, not_addressed_from}
 
 pub offset_above : (at x : ℕ) → at ≤ x → x < 2 ^ 64 → offset_from at x ≡ x - at
 offset_above at x h small = omega arith
 
 pub offset_below : (at x : ℕ) → x < at → at ≤ 2 ^ 64 → offset_from at x ≡ x + (2 ^ 64 - at)
 offset_below at x h small = omega arith
-
-pub small_address : (x : ℕ) → x < 2 ^ 64 → x % 2 ^ 64 ≡ x
-small_address x h = omega arith
 
 -- the span that has the bytes, read from the list
 pub same_span : (spans : List Span) (i at n : ℕ) (w : HasBytes spans i at n) (span : Span) → span ≡ get_or spans i span → span ≡ w.span
@@ -43,27 +38,6 @@ word_within spans i at (suc n) span o e from to =
     let there : address_plus at n % 2 ^ 64 ≡ at + n = omega arith in
     let byte : byte_of spans (at + n) ≡ slice_index span.bytes.items (at + n - span.at) = byte_within 0 spans i span (at + n) o e (omega arith) (omega arith) in
     rw (word_within spans i at n span o e from (omega arith), here, there, byte) refl
-
-more_bytes : (f : ℕ → ℕ) (m o k x e : ℕ) → (x ≡ e → o ≡ k) → (o ≡ k → x ≡ e)
-    → (if nat_lt o (k + 1) then f o else m) ≡ (if x == e then f k else (if nat_lt o k then f o else m))
-more_bytes f m o k x e there back = grind (arith, nat_tests)
-
--- one byte more of a word, byte by byte
-pub next_byte : (memory : ℕ → ℕ) (at k word x : ℕ) → x < 2 ^ 64 → at < 2 ^ 64 → k < 8
-    → with_word memory at (k + 1) word x ≡ (if x == (at + k) % 2 ^ 64 then word / 256 ^ k % 256 else with_word memory at k word x)
-next_byte memory at k word x small from low =
-    more_bytes (λ o. word / 256 ^ o % 256) (memory x) (offset_from at x) k x ((at + k) % 2 ^ 64) (λ e. omega arith) (λ e. omega arith)
-
-memory_at : (old new : List Span) (at n word : ℕ)
-    → ((x : ℕ) → x < 2 ^ 64 → byte_of new x ≡ with_word (byte_of old) at n word x) → (y : ℕ) → memory_of new y ≡ with_word (memory_of old) at n word y
-memory_at old new at n word h y =
-    let e : offset_from at (y % 2 ^ 64) ≡ offset_from at y = mod-add-mod y (2 ^ 64) (2 ^ 64 - at) in
-    rw e at (h (y % 2 ^ 64) (omega arith))
-
--- a write seen from every address
-pub memory_written : (old new : List Span) (at n word : ℕ)
-    → ((x : ℕ) → x < 2 ^ 64 → byte_of new x ≡ with_word (byte_of old) at n word x) → memory_of new ≡ with_word (memory_of old) at n word
-memory_written old new at n word h = λ i. λ y. memory_at old new at n word h y i
 
 inside_choice : (f : ℕ → ℕ) (m from y o n : ℕ) → (from ≤ y → o ≡ y - from) → (y < from → n ≤ o)
     → (if nat_le from y && nat_lt (y - from) n then f (y - from) else m) ≡ (if nat_lt o n then f o else m)
@@ -96,5 +70,3 @@ span_written spans i at n word span new x o e from to same len bytes small =
       | false ↦ (λ t.
           outside_choice f (byte_of spans x) (offset_from at x) n (outside_offset span.at (length span.bytes.items) at n x (not_addressed_from span x t) from to ends small))
     ] refl
-
-pub ruleset written = (memory_written)

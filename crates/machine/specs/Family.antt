@@ -1,5 +1,5 @@
 -- The families of operations that a step runs alike, and what each does.
-use Rattle.std.specs.Prelude.{◌≡◌, ℕ, ◌+◌, ◌==◌, ◌++◌, slice_index, Bool, true, List, Option, Some, None, if◌then◌else◌}
+use Rattle.std.specs.Prelude.{◌≡◌, ℕ, ◌+◌, ◌^◌, ◌<◌, ◌==◌, ◌++◌, slice_index, Bool, true, false, List, Option, Some, None, if◌then◌else◌}
 use Rattle.std.specs.List.{list_all}
 use Rattle.align_base.specs.declared.op.Cond.{Cond}
 use Rattle.align_base.specs.declared.op.Flags.{Flags}
@@ -11,10 +11,12 @@ use Rattle.instruction_semantics.specs.Conditions.{cond_of}
 use Rattle.machine.specs.declared.operands.Family.{Family}
 use Rattle.machine.specs.declared.operands.Family.TheVariants.{Computing, Address, Choice, Setting, Branch, Jump, Pushing, Popping, Return, Idle}
 use Rattle.machine.specs.Access.{access_at, is_allowed, is_on_stack, stack_pointer, writes}
+use Rattle.machine.specs.Kept.{Kept, pure_of}
 use Rattle.machine.specs.Machine.{Machine, offset_from}
 use Rattle.machine.specs.Operands.{operand, with_value}
-use Rattle.machine.specs.Run.{Step, Goes, Returns, MeetsUnset}
-use Rattle.machine.specs.Step.{after_row, at_place, conditional, jump_place, popped, pushed, target_of}
+use Rattle.machine.specs.Run.{Step, Goes, Returns}
+use Rattle.machine.specs.Runnable.{HasNumbers, HasRowOf, IsWidth}
+use Rattle.machine.specs.Step.{after_row, at_place, conditional, jump_place, popped, pushed, target_of, tested}
 
 abbrev pub family_of : Op → Family
 family_of ops.Lea = Address
@@ -35,6 +37,14 @@ condition_of (ops.Cmov c) = Some c
 condition_of (ops.Set c) = Some c
 condition_of (ops.Jump c) = Some c
 condition_of _ = None
+
+abbrev pub held_by : Option Cond → Flags → Option Bool
+held_by None f = Some false
+held_by (Some c) f = cond_of c f
+
+-- the condition's value; an operation that reads none has any
+abbrev pub holds_of : Op → Flags → Option Bool
+holds_of op f = held_by (condition_of op) f
 
 -- the free step of a family, where the condition, if there is one, has this value
 abbrev pub goes : Family → List ℕ → Insn → Machine → Bool → Step Machine
@@ -66,7 +76,20 @@ passes Branch i s = passes_accesses i s
 passes Jump i s = passes_accesses i s
 passes Idle i s = passes_accesses i s
 
+-- one instruction, by its family
+abbrev pub insn_step : List ℕ → Insn → Machine → Step Machine
+insn_step pool i s = tested (passes (family_of i.op) i s) (conditional (holds_of i.op s.flags) (goes (family_of i.op) pool i s))
+
 -- the state after a row that has given this result and these flags
 abbrev pub completed : Insn → Machine → ℕ → Flags → Machine
 completed i s result flags =
     record (if writes i.op then with_value i.w s (target_of i.op i) result else s) { flags = flags; place = s.place + 1 }
+
+-- What a row, or another step of a family, needs of its instruction and of the state.
+pub record IsReady (kind : Family) (i : Insn) (k : Kept) : Type 0 where
+  pub width : IsWidth i.w
+  pub numbers : (n : ℕ) → HasNumbers (operand i n)
+  pub row : HasRowOf i.op i
+  pub family : family_of i.op ≡ kind
+  pub allowed : passes kind i (pure_of k) ≡ true
+  pub next : k.place + 1 < 2 ^ 32

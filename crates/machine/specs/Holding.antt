@@ -1,8 +1,6 @@
 -- What a State holds, seen as a kept state, and what each State keeps true.
-use Rattle.std.specs.Prelude.{◌≡◌, ℕ, List, length, map}
+use Rattle.std.specs.Prelude.{◌≡◌, length, map}
 use Rattle.lane_views.specs.declared.Bytes32.{Bytes32}
-use Rattle.machine.specs.declared.state.Region.{Region}
-use Rattle.machine.specs.declared.state.Span.{Span}
 use Rattle.machine.specs.declared.state.State.TheInside.{Inside}
 use Rattle.machine.specs.Kept.{IsKept, Kept}
 

@@ -1,11 +1,11 @@
 -- What the code keeps of a state: spans of bytes in place of a memory. pure_of says what they mean, and no theorem above
 -- mentions them.
-use Rattle.std.specs.Prelude.{◌≡◌, ◌⊎◌, ℕ, ◌+◌, ◌-◌, ◌^◌, ◌%◌, ◌<◌, ◌≤◌, ◌&&◌, Bool, true, false, nat_le, nat_lt, List, [], ◌∷◌, length, map, slice_index, if◌then◌else◌}
+use Rattle.std.specs.Prelude.{◌≡◌, ℕ, ◌+◌, ◌-◌, ◌^◌, ◌%◌, ◌<◌, ◌≤◌, ◌&&◌, Bool, true, false, nat_le, nat_lt, List, [], ◌∷◌, length, slice_index, if◌then◌else◌}
 use Rattle.std.specs.List.{AllByRecursion}
 use Rattle.align_base.specs.declared.op.Flags.{Flags}
 use Rattle.machine.specs.declared.state.Region.{Region}
 use Rattle.machine.specs.declared.state.Span.{Span}
-use Rattle.machine.specs.Machine.{IsInStack, Machine, no_flags, offset_from}
+use Rattle.machine.specs.Machine.{IsInStack, Machine}
 
 pub record Kept : Type 0 where
   pub regs : List ℕ

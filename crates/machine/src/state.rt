@@ -1,17 +1,26 @@
-ghost use Rattle.std.specs.Prelude.{◌≡◌, ℕ, ◌+◌, ◌-◌, ◌*◌, ◌/◌, ◌%◌, ◌^◌, ◌<◌, ◌≤◌, Some, IfOk, slice_get, slice_index, true, false, length};
+ghost use Rattle.std.specs.Prelude.{◌≡◌, ℕ, ◌+◌, ◌-◌, ◌*◌, ◌/◌, ◌%◌, ◌^◌, ◌<◌, ◌≤◌, Some, IfOk, slice_get, slice_index, true, false, length, if◌then◌else◌};
 ghost use Rattle.std.specs.List.{list_all};
 ghost use Rattle.machine.specs.Access as access;
-ghost use Rattle.machine.specs.Family.{condition_of, completed, family_of, goes, passes, passes_accesses};
+ghost use Rattle.machine.specs.Family.{completed, goes, holds_of, insn_step, IsReady, passes, passes_accesses};
 ghost use Rattle.machine.specs.Machine.{offset_from};
 ghost use Rattle.machine.specs.Operands as operands;
-ghost use Rattle.machine.specs.Runnable.{HasNumbers, IsNumber, IsRunnable, IsWidth};
+ghost use Rattle.machine.specs.Spanned.{IsSpanned};
+ghost use Rattle.machine.specs.Run.{run_of};
+ghost use Rattle.machine.specs.Step as steps;
+ghost use Rattle.machine.specs.Stepping.{StepsAs};
+ghost use Rattle.instruction_semantics.specs.Words.{bit};
+ghost use Rattle.machine.specs.Runnable.{HasNumbers, HasRowOf, IsNumber, IsRunnable, IsRunnableFunction, IsWidth};
 ghost use Rattle.machine.specs.Kept.{byte_of, IsKept, pure_of};
 ghost use Rattle.machine.specs.Start.{IsCopy, kept_start};
 
-use crate::operands::{Family, arity, displacement_of, low_bits, operand, width_at, writes};
-use crate::spans::{byte_at, copy_spans, word_in, word_of};
+use crate::operands::{
+    Family, arity, condition, destination, displacement_of, jump_place, low_bits, merged,
+    op_family, operand, register_number, source, source_width, target, width_at, writes,
+};
+use crate::spans::{byte_at, copy_spans, put_word, word_in, word_of};
 use align_base::{Flags, Memory};
-use insn_table::{Insn, Operand};
+use insn_table::{Function, Insn, Op, Operand};
+use lane_ops::{flags, scalar};
 use lane_views::Bytes32;
 use std::alloc::Global;
 use std::marker::Model;
@@ -281,6 +290,242 @@ impl State {
             Family::Jump => self.allows_operands(insn),
             Family::Idle => self.allows_operands(insn),
         }
+    }
+}
+
+// What a step changes.
+impl State {
+    // Writes the `w` bits of a word to an operand.
+    fn put(&mut self, target: Operand, w: u32, word: u64)
+        requires width { IsWidth w }
+        requires word { word < 2 ^ w }
+        requires numbers { HasNumbers target }
+        requires spanned { IsSpanned self.old w target }
+        ensures state { pure_of self.new ≡ operands.with_value w (pure_of self.old) target word }
+        ensures place { self.new.place ≡ self.old.place }
+    {
+        match target {
+            Operand::Reg { n, .. } => {
+                let old = self.regs[n as usize];
+                self.regs[n as usize] = merged(w, old, word);
+            }
+            Operand::Mem { .. } => {
+                let at = self.address(target);
+                put_word(&mut self.spans, at, w / 8, word);
+            }
+            _ => {}
+        }
+    }
+
+    // Writes a row's result, where the operation writes one.
+    fn put_result(&mut self, insn: &Insn, word: u64)
+        requires width { IsWidth insn.now.w }
+        requires word { word < 2 ^ insn.now.w }
+        requires numbers { (n : ℕ) → HasNumbers (operands.operand insn.now n) }
+        requires spanned { access.writes insn.now.op ≡ true → IsSpanned self.old insn.now.w (steps.target_of insn.now.op insn.now) }
+        ensures state { pure_of self.new ≡ (if access.writes insn.now.op
+            then operands.with_value insn.now.w (pure_of self.old) (steps.target_of insn.now.op insn.now) word else pure_of self.old) }
+        ensures place { self.new.place ≡ self.old.place }
+    {
+        if writes(insn.op) {
+            self.put(target(insn), insn.w, word);
+        }
+    }
+
+    // Ends a row: its result, its flags and the next place.
+    fn complete(&mut self, insn: &Insn, word: u64, flags: Flags)
+        requires width { IsWidth insn.now.w }
+        requires word { word < 2 ^ insn.now.w }
+        requires numbers { (n : ℕ) → HasNumbers (operands.operand insn.now n) }
+        requires spanned { access.writes insn.now.op ≡ true → IsSpanned self.old insn.now.w (steps.target_of insn.now.op insn.now) }
+        requires next { self.old.place + 1 < 2 ^ 32 }
+        ensures { pure_of self.new ≡ completed insn.now (pure_of self.old) word flags }
+    {
+        self.put_result(insn, word);
+        self.flags = flags;
+        self.place += 1;
+    }
+
+    // What a row's destination holds.
+    #[tactic(auto, using(crate::proofs::Targets::targets))]
+    fn destination_value(&self, pool: &[u8], insn: &Insn) -> u64
+        requires width { IsWidth insn.now.w }
+        requires numbers { (n : ℕ) → HasNumbers (operands.operand insn.now n) }
+        ensures value { result ≡ steps.destination_value pool.now insn.now (pure_of self.now) }
+        ensures below { result < 2 ^ insn.now.w }
+    {
+        self.value(pool, insn.w, destination(insn))
+    }
+
+    // What a row's source holds, but for `lea`.
+    #[tactic(auto, using(crate::proofs::Targets::targets))]
+    fn source_value(&self, pool: &[u8], insn: &Insn) -> u64
+        requires width { IsWidth insn.now.w }
+        requires numbers { (n : ℕ) → HasNumbers (operands.operand insn.now n) }
+        requires row { HasRowOf insn.now.op insn.now }
+        ensures value { result ≡ operands.value_of pool.now (access.source_width insn.now.op insn.now.w) (pure_of self.now)
+            (steps.source_of insn.now.op insn.now) }
+        ensures below { result < 2 ^ access.source_width insn.now.op insn.now.w }
+    {
+        self.value(pool, source_width(insn.op, insn.w), source(insn))
+    }
+
+    // A computing row.
+    fn compute(&mut self, pool: &[u8], insn: &Insn)
+        requires { IsReady Family.Computing insn.now self.old }
+        ensures { pure_of self.new ≡ steps.after_row pool.now insn.now (pure_of self.old) 0 }
+    {
+        let a = self.destination_value(pool, insn);
+        let b = self.source_value(pool, insn);
+        let word = scalar(insn.op, insn.w, a, b);
+        let after = flags(insn.op, insn.w, a, b, self.flags);
+        self.complete(insn, word, after);
+    }
+
+    // `lea`: the source's address.
+    fn load_address(&mut self, pool: &[u8], insn: &Insn)
+        requires { IsReady Family.Address insn.now self.old }
+        ensures { pure_of self.new ≡ steps.after_row pool.now insn.now (pure_of self.old) 0 }
+    {
+        let word = low_bits(insn.w, self.address(operand(insn, 0)));
+        let flags = self.flags;
+        self.complete(insn, word, flags);
+    }
+
+    // A move by condition, which writes the old value where the condition does not hold.
+    fn choose(&mut self, pool: &[u8], insn: &Insn, holds: bool)
+        requires { IsReady Family.Choice insn.now self.old }
+        ensures { pure_of self.new ≡ steps.after_row pool.now insn.now (pure_of self.old) (bit holds) }
+    {
+        let a = self.destination_value(pool, insn);
+        let b = self.source_value(pool, insn);
+        let word = if holds { b } else { a };
+        let flags = self.flags;
+        self.complete(insn, word, flags);
+    }
+
+    // A byte set by condition.
+    fn set(&mut self, pool: &[u8], insn: &Insn, holds: bool)
+        requires { IsReady Family.Setting insn.now self.old }
+        ensures { pure_of self.new ≡ steps.after_row pool.now insn.now (pure_of self.old) (bit holds) }
+    {
+        let word = if holds { 1 } else { 0 };
+        let flags = self.flags;
+        self.complete(insn, word, flags);
+    }
+
+    // `push`: the old value, also of the stack pointer itself.
+    fn push(&mut self, insn: &Insn)
+        requires { IsReady Family.Pushing insn.now self.old }
+        ensures { pure_of self.new ≡ steps.pushed insn.now (pure_of self.old) }
+    {
+        let n = register_number(operand(insn, 0));
+        let value = self.regs[n as usize];
+        let below = self.regs[4].wrapping_sub(8);
+        put_word(&mut self.spans, below, 8, value);
+        self.regs[4] = below;
+        self.place += 1;
+    }
+
+    // `pop`: into the stack pointer, the value read stays.
+    fn pop(&mut self, insn: &Insn)
+        requires { IsReady Family.Popping insn.now self.old }
+        ensures { pure_of self.new ≡ steps.popped insn.now (pure_of self.old) }
+    {
+        let n = register_number(operand(insn, 0));
+        let at = self.regs[4];
+        let value = word_of(&self.spans, at, 8);
+        self.regs[4] = at.wrapping_add(8);
+        self.regs[n as usize] = value;
+        self.place += 1;
+    }
+
+    // Goes to a place.
+    fn go_to(&mut self, place: u32)
+        ensures { pure_of self.new ≡ steps.at_place (pure_of self.old) place }
+    {
+        self.place = place;
+    }
+
+    // An instruction whose tests hold and whose condition has this value.
+    fn execute(&mut self, family: Family, pool: &[u8], insn: &Insn, holds: bool) -> StepEnd
+        requires { IsReady family insn.now self.old }
+        ensures { StepsAs (goes family pool.now insn.now (pure_of self.old) holds) (pure_of self.old) result (pure_of self.new) }
+    {
+        let next = self.place + 1;
+        match family {
+            Family::Computing => self.compute(pool, insn),
+            Family::Address => self.load_address(pool, insn),
+            Family::Choice => self.choose(pool, insn, holds),
+            Family::Setting => self.set(pool, insn, holds),
+            Family::Branch => self.go_to(if holds {
+                jump_place(operand(insn, 0))
+            } else {
+                next
+            }),
+            Family::Jump => self.go_to(jump_place(operand(insn, 0))),
+            Family::Pushing => self.push(insn),
+            Family::Popping => self.pop(insn),
+            Family::Return => return StepEnd::Return,
+            Family::Idle => self.go_to(next),
+        }
+        StepEnd::Next
+    }
+
+    // The value of the operation's condition, `None` where a flag that it reads is unset. An operation
+    // without one has any value.
+    fn condition_value(&self, op: Op) -> Option<bool>
+        ensures { result ≡ holds_of op self.now.flags }
+    {
+        match condition(op) {
+            None => Some(false),
+            Some(cond) => lane_ops::holds(cond, &self.flags),
+        }
+    }
+
+    // Runs an instruction.
+    fn run_insn(&mut self, pool: &[u8], insn: &Insn) -> StepEnd
+        requires runnable { (n : ℕ) × IsRunnable n insn.now }
+        requires next { self.old.place + 1 < 2 ^ 32 }
+        ensures { StepsAs (insn_step pool.now insn.now (pure_of self.old)) (pure_of self.old) result (pure_of self.new) }
+    {
+        let Some(holds) = self.condition_value(insn.op) else {
+            return StepEnd::Unset;
+        };
+        let family = op_family(insn.op);
+        if !self.allows(family, insn) {
+            return StepEnd::Fault;
+        }
+        self.execute(family, pool, insn, holds)
+    }
+
+    /// Runs one instruction of the function.
+    pub fn step(&mut self, f: &Function) -> StepEnd
+        requires function { IsRunnableFunction f.now.insns }
+        requires inside { self.old.place < length f.now.insns }
+        ensures steps { StepsAs (steps.step_of f.now.insns f.now.pool (pure_of self.old)) (pure_of self.old) result (pure_of self.new) }
+        ensures inside { self.new.place < length f.now.insns }
+    {
+        let insn = f.insns.as_slice()[self.place as usize];
+        self.run_insn(f.pool.as_slice(), &insn)
+    }
+
+    /// Runs the function for at most `n` steps.
+    pub fn run(&mut self, f: &Function, n: u64) -> RunEnd
+        requires function { IsRunnableFunction f.now.insns }
+        requires inside { self.old.place < length f.now.insns }
+        ensures runs { run_of (steps.step_of f.now.insns f.now.pool) (pure_of self.old) n ≡ (pure_of self.new, result) }
+        ensures inside { self.new.place < length f.now.insns }
+    {
+        for i in 0..n {
+            match self.step(f) {
+                StepEnd::Next => {}
+                StepEnd::Return => return RunEnd::Returned(i + 1),
+                StepEnd::Fault => return RunEnd::Faulted(i + 1),
+                StepEnd::Unset => return RunEnd::Unset(i + 1),
+            }
+        }
+        RunEnd::Running
     }
 }
 
