@@ -5,6 +5,8 @@ mod laws;
 mod operands;
 mod spans;
 mod state;
+#[cfg(test)]
+mod tests;
 
 pub use laws::{
     path_law, plain_functions_agree, plain_functions_return, run_law, step_frame_law, way_law,
