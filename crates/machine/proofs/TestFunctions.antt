@@ -1,5 +1,5 @@
 -- Functions of tests: instructions that can be run among two, with a return behind them.
-use Rattle.std.proofs.Common.{◌≡◌, ℕ, zero, suc, ◌+◌, ◌-◌, ◌^◌, ◌<◌, ◌≤◌, List, [], ◌∷◌, ◌++◌, length, slice_get, Some, refl, sym, ◌∙◌, ap, subst, length-append, arith}
+use Rattle.std.proofs.Common.{◌≡◌, ℕ, zero, suc, ◌+◌, ◌-◌, ◌<◌, ◌≤◌, List, [], ◌∷◌, ◌++◌, length, slice_get, Some, refl, sym, ◌∙◌, ap, subst, length-append, arith}
 use Rattle.std.specs.List.{AllByRecursion}
 use Rattle.align_base.specs.declared.op.Op.{Op}
 use Rattle.align_base.specs.declared.op.Op.TheVariants as ops

@@ -152,7 +152,10 @@ fn writes_of_each_width(rt: HostRuntime) -> Result<(), Fail> {
         (32, 0x1111_1111),
         (64, 0x1111_1111_1111_1111),
     ] {
-        let f = function(rt.alloc(), &[insn(Op::Mov, w, memory(RCX, 8), register(RAX, w))])?;
+        let f = function(
+            rt.alloc(),
+            &[insn(Op::Mov, w, memory(RCX, 8), register(RAX, w))],
+        )?;
         let mut state = start(rt.alloc(), 0xFFFF_FFFF_FFFF_FFFF, 4096)?;
         assert_eq!(rt; state.run(&f, 9), RunEnd::Returned(2));
         assert_eq!(rt; state.reg(RAX), rax);
