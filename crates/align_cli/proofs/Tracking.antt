@@ -8,7 +8,8 @@ use Rattle.std.proofs.lemmas.Option.{slice_get_within, slice_get-get_or, get_or_
 use Rattle.insn_table.specs.declared.insn.Insn.{Insn}
 use Rattle.insn_table.specs.declared.insn.Operand.{Operand}
 use Rattle.insn_table.specs.declared.insn.Operand.TheVariants.{Reg, Nothing}
-use Rattle.machine.specs.Machine.{AreRegs, computed, regs_after, value_at}
+use Rattle.machine.specs.Machine.{AreRegs}
+use Rattle.machine.specs.Straight.{computed, regs_after, value_at}
 use Rattle.machine.specs.Straight.{regs_through}
 use Rattle.align_cli.specs.declared.sums.Sum.{Sum}
 use Rattle.align_cli.specs.Sums.{Tracks, sum_value}

@@ -1,24 +1,21 @@
 -- From sums to verdicts: plain functions whose sums agree are equivalent, and registers that tell the sums apart
 -- make a state from which the functions end differently.
-use Rattle.std.proofs.Common.{◌≡◌, inl, inr, ⊎_elim, ℕ, zero, suc, ◌*◌, ◌≤◌, List, length, set, replicate, get_or, refl, sym, ◌∙◌, max, slice_index, arith}
+use Rattle.std.proofs.Common.{◌≡◌, inl, inr, ⊎_elim, ℕ, zero, suc, ◌*◌, ◌≤◌, ◌<◌, List, [], Some, slice_get, length, set, replicate, get_or, refl, sym, ap, ◌∙◌, max, slice_index, arith}
 use Rattle.std.proofs.Math.ListN.{length-set}
 use Rattle.insn_table.specs.Plain.{IsPlain}
 use Rattle.insn_table.specs.declared.insn.Insn.{Insn}
-use Rattle.machine.specs.Machine.{AreRegs, IsStart, Machine, start_at}
+use Rattle.machine.specs.Machine.{AreRegs, AreVecs, IsPlainStart}
 use Rattle.machine.specs.Straight.{regs_through}
-use Rattle.machine.proofs.PlainLaws.{plain_end, plain_ends, plain_moves, plain_never_faults, plain-equivalent}
+use Rattle.machine.proofs.PlainLaws.{plain_end, plain_end-regs, plain_ends, plain_moves, plain_never_faults, plain-equivalent}
 use Rattle.align_cli.specs.declared.sums.Sum.{Sum}
 use Rattle.align_cli.specs.Headline.{AgreeFrom, IsShown, ReportsDifferent, ReportsEquivalent, ReturnsFrom}
 use Rattle.align_cli.specs.Report.{different_report, equivalent_report}
-use Rattle.align_cli.specs.Shown.{no_register, one_register}
+use Rattle.align_cli.specs.Shown.{no_register, one_register, start_at}
 use Rattle.align_cli.specs.Sums.{LeavesInRax, TellsApart, sum_value}
 
 -- a function leaves the value of its sum
 leaves : (f : List Insn) (p : IsPlain f) (a : Sum) (regs : List ℕ) → LeavesInRax f a → AreRegs regs → slice_index (regs_through p.moves regs) 0 ≡ sum_value a regs
 leaves f p a regs h are = rw (plain_moves f p) (sym (h regs are))
-
-start_regs : (s : Machine) → IsStart s → AreRegs s.regs
-start_regs s start = rw start.entered start.regs
 
 pub sums_agree : (f g : List Insn) (a b : Sum) (bound : ℕ) (report : List ℕ) → IsPlain f → IsPlain g → LeavesInRax f a → LeavesInRax g b
     → ((regs : List ℕ) → sum_value a regs ≡ sum_value b regs) → bound ≡ 2 * max (length f) (length g) → report ≡ equivalent_report bound
@@ -26,10 +23,10 @@ pub sums_agree : (f g : List Insn) (a b : Sum) (bound : ℕ) (report : List ℕ)
 sums_agree f g a b bound report p q left right same is told = record {
   bound = bound;
   bound_is = is;
-  equivalent = rw is (plain-equivalent f g p q (λ s start.
-      let are = start_regs s start in leaves f p a s.regs left are ∙ same s.regs ∙ sym (leaves g q b s.regs right are)));
-  left_never_faults = plain_never_faults f p;
-  right_never_faults = plain_never_faults g q;
+  equivalent = rw is (plain-equivalent f g [] [] p q (λ s start.
+      let are = start.start.valid.regs in leaves f p a s.regs left are ∙ same s.regs ∙ sym (leaves g q b s.regs right are)));
+  left_never_faults = plain_never_faults f [] p;
+  right_never_faults = plain_never_faults g [] q;
   report_is = told;
 }
 
@@ -52,11 +49,40 @@ none_are = record { sixteen = refl; below = λ n. omega (arith, at_most_one 16 1
 one_are : (n : ℕ) → AreRegs (one_register n)
 one_are n = record { sixteen = length-set no_register n 1; below = λ j. omega (arith, at_most_one 16 n j) }
 
-start_from : (regs : List ℕ) → AreRegs regs → IsStart (start_at regs)
-start_from regs are = record { first = refl; entered = refl; regs = are }
+replicated : (k n : ℕ) (x v : List ℕ) → slice_get (replicate k x) n ≡ Some v → v ≡ x
+replicated zero n x v e = cc
+replicated (suc k) zero x v e = cc
+replicated (suc k) (suc n) x v e = replicated k n x v e
+
+zeros_below : (k j : ℕ) → get_or (replicate k 0) j 0 < 256
+zeros_below zero j = omega arith
+zeros_below (suc k) zero = omega arith
+zeros_below (suc k) (suc j) = zeros_below k j
+
+zero_vecs : AreVecs (replicate 16 (replicate 32 0))
+zero_vecs = record {
+  sixteen = refl;
+  each = λ n v e. rw (replicated 16 n (replicate 32 0) v e) (refl, zeros_below 32);
+}
+
+start_from : (regs : List ℕ) → AreRegs regs → IsPlainStart (start_at regs)
+start_from regs are = record {
+  start = record {
+    valid = record { regs = are; entry = are; vecs = zero_vecs; memory = λ at. omega arith };
+    first = refl;
+    entered = refl;
+    unset = refl;
+  };
+  no_region = refl;
+  no_stack = refl;
+}
 
 returns_from : (f : List Insn) (p : IsPlain f) (a : Sum) (regs : List ℕ) (value : ℕ) → LeavesInRax f a → AreRegs regs → value ≡ sum_value a regs → ReturnsFrom regs f value
-returns_from f p a regs value h are is = (plain_end p (start_at regs), plain_ends f p (start_at regs) (start_from regs are), leaves f p a regs h are ∙ sym is)
+returns_from f p a regs value h are is = (
+  plain_end [] p (start_at regs),
+  plain_ends f [] p (start_at regs) (start_from regs are),
+  ap (λ (after : List ℕ). slice_index after 0) (plain_end-regs [] p (start_at regs)) ∙ leaves f p a regs h are ∙ sym is,
+)
 
 agree_from : (f g : List Insn) (a b : Sum) (regs : List ℕ) → IsPlain f → IsPlain g → LeavesInRax f a → LeavesInRax g b → AreRegs regs
     → sum_value a regs ≡ sum_value b regs → AgreeFrom regs f g

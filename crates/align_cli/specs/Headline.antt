@@ -1,5 +1,5 @@
 -- What each report says of the files, the functions and every state.
-use Rattle.std.specs.Prelude.{◌≡◌, ◌≢◌, ◌⊎◌, ℕ, ◌+◌, ◌*◌, ◌<◌, ◌≤◌, max, List, length, Option, Some}
+use Rattle.std.specs.Prelude.{◌≡◌, ◌≢◌, ◌⊎◌, ℕ, ◌+◌, ◌*◌, ◌<◌, ◌≤◌, max, List, [], length, Option, Some}
 use Rattle.align_base.specs.Causes.{Rose}
 use Rattle.align_base.specs.Shelf.{Holding, Holds, HoldsMore}
 use Rattle.align_base.specs.Sink.{Appended, AppendedFront}
@@ -12,14 +12,15 @@ use Rattle.align_base.specs.declared.status.Status.TheVariants as status
 use Rattle.insn_table.specs.declared.insn.Insn.{Insn}
 use Rattle.insn_table.specs.declared.insn.Function.{Function}
 use Rattle.machine.specs.Equivalent.{AreEquivalent}
-use Rattle.machine.specs.Machine.{Machine, IsStart, SameRax, rax, start_at, step_of}
-use Rattle.machine.specs.Run.{end_of, run_of}
+use Rattle.machine.specs.Machine.{Machine, IsPlainStart, SameRax, rax}
+use Rattle.machine.specs.Run.{Step, end_of, run_of}
+use Rattle.machine.specs.Step.{step_of}
 use Rattle.machine.specs.declared.state.RunEnd.TheVariants.{Returned, Faulted}
 use Rattle.att_reader.specs.declared.refusal.ReadRefusal.{ReadRefusal}
 use Rattle.att_reader.specs.PlainText.{IsPlainText}
 use Rattle.att_reader.specs.Refusals.{IsRefused}
 use Rattle.align_cli.specs.Form.{AreNoForm, IsShortForm, ShortForm}
-use Rattle.align_cli.specs.Shown.{no_register, one_register}
+use Rattle.align_cli.specs.Shown.{no_register, one_register, start_at}
 use Rattle.align_cli.specs.Report.{different_report, equivalent_report, large_refusal, line_refusal, usage_text}
 
 -- the most bytes of a file of a function: 16 MiB
@@ -37,15 +38,19 @@ pub record Names (form : ShortForm) (told : Option Holding) (left right : Functi
   pub right_small : length right_text ≤ file_limit
   pub right_reads : IsPlainText right_text form.right_name right
 
+-- the step of a function of a plain text, which has no pool of constants
+abbrev pub plain_step : List Insn → Machine → Step Machine
+plain_step insns = step_of insns []
+
 -- no run of the function faults
 abbrev pub NeverFaults : List Insn → Type 0
-NeverFaults insns = (s : Machine) → IsStart s → (n i : ℕ) → end_of (step_of insns) s n ≢ Faulted i
+NeverFaults insns = (s : Machine) → IsPlainStart s → (n i : ℕ) → end_of (plain_step insns) s n ≢ Faulted i
 
 -- The report says that the functions are equivalent within a bound, and they are.
 pub record ReportsEquivalent (left right : List Insn) (report : List ℕ) : Type 0 where
   pub bound : ℕ
   pub bound_is : bound ≡ 2 * max (length left) (length right)
-  pub equivalent : AreEquivalent IsStart SameRax bound (step_of left) (step_of right)
+  pub equivalent : AreEquivalent IsPlainStart SameRax bound (plain_step left) (plain_step right)
   pub left_never_faults : NeverFaults left
   pub right_never_faults : NeverFaults right
   pub report_is : report ≡ equivalent_report bound
@@ -53,7 +58,7 @@ pub record ReportsEquivalent (left right : List Insn) (report : List ℕ) : Type
 -- from the start state with these registers a function returns at its last instruction with this %rax
 abbrev pub ReturnsFrom : List ℕ → List Insn → ℕ → Type 0
 ReturnsFrom regs insns value =
-    (end : Machine) × (run_of (step_of insns) (start_at regs) (length insns) ≡ (end, Returned (length insns))) × (rax end ≡ value)
+    (end : Machine) × (run_of (plain_step insns) (start_at regs) (length insns) ≡ (end, Returned (length insns))) × (rax end ≡ value)
 
 -- both return from that state with the same %rax
 abbrev pub AgreeFrom : List ℕ → List Insn → List Insn → Type 0
@@ -69,7 +74,7 @@ IsShown left right regs =
 -- The report names a start state from which both return with different %rax, and that is so.
 pub record ReportsDifferent (left right : List Insn) (report : List ℕ) : Type 0 where
   pub regs : List ℕ
-  pub start : IsStart (start_at regs)
+  pub start : IsPlainStart (start_at regs)
   pub shown : IsShown left right regs
   pub left_value : ℕ
   pub left_returns : ReturnsFrom regs left left_value

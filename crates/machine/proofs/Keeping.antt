@@ -4,16 +4,17 @@ use Rattle.std.proofs.Math.ListN.{length-set}
 use Rattle.std.specs.List.{AllByRecursion}
 use Rattle.std.proofs.lemmas.Grind.{common_steps}
 use Rattle.align_base.specs.declared.op.Op.{Op}
-use Rattle.align_base.specs.declared.op.Op.TheVariants.{Mov, Add, Sub, Ret}
+use Rattle.align_base.specs.declared.op.Op.TheVariants.{Mov, Add, Sub}
 use Rattle.insn_table.specs.declared.insn.Operand.{Operand}
 use Rattle.insn_table.specs.declared.insn.Operand.TheVariants.{Reg, Imm, Mem, Vec, Pool, Target, Nothing}
 use Rattle.insn_table.specs.declared.insn.Insn.{Insn}
 use Rattle.insn_table.specs.Plain.{IsPlainMove}
 use Rattle.insn_table.specs.Sound.{IsMoveOf, IsRegister, IsSignedWord, IsSource}
-use Rattle.machine.specs.Machine.{AreRegs, operand, value_at, written, computed, regs_after}
-use Rattle.machine.specs.Straight.{regs_through}
+use Rattle.machine.specs.Machine.{AreRegs}
+use Rattle.machine.specs.Operands.{operand}
+use Rattle.machine.specs.Straight.{computed, regs_after, regs_through, value_at, written}
 
-signed-below : (v : ℕ) → IsSignedWord v → v < 2 ^ 64
+pub signed-below : (v : ℕ) → IsSignedWord v → v < 2 ^ 64
 signed-below v (inl small) = omega arith
 signed-below v (inr large) = large.1
 

@@ -1,5 +1,5 @@
 -- What plain functions do from a start state: they return at their last instruction.
-use Rattle.std.proofs.Common.{◌≡◌, ◌≢◌, ℕ, zero, suc, ◌+◌, List, [], ◌∷◌, ◌++◌, length, drop, slice_get, slice_index, unwrap_or, Some, Bool, refl, sym, ◌∙◌, ap, subst, add-zero, add-one, zero-add, eq-eqb, get_or-set_other, length-append, arith}
+use Rattle.std.proofs.Common.{◌≡◌, ℕ, zero, suc, ◌+◌, List, [], ◌∷◌, ◌++◌, length, drop, slice_get, slice_index, unwrap_or, Some, Bool, refl, sym, ◌∙◌, ap, subst, add-zero, zero-add, eq-eqb, get_or-set_other, length-append, arith}
 use Rattle.std.specs.List.{AllByRecursion}
 use Rattle.align_base.specs.declared.op.Op.{Op}
 use Rattle.align_base.specs.declared.op.Op.TheVariants.{Ret}
@@ -7,12 +7,17 @@ use Rattle.insn_table.specs.declared.insn.Operand.{Operand}
 use Rattle.insn_table.specs.declared.insn.Operand.TheVariants.{Reg, Imm, Mem, Vec, Pool, Target, Nothing}
 use Rattle.insn_table.specs.declared.insn.Insn.{Insn}
 use Rattle.insn_table.specs.Sound.{IsRegister, IsReturn}
-use Rattle.insn_table.specs.Plain.{IsFree, IsMoveOp, IsPlainMove}
-use Rattle.machine.specs.Machine.{Machine, IsStart, operand, value_at, written, computed, regs_after, advanced, tested, executed, op_allows, step_of}
+use Rattle.insn_table.specs.Plain.{IsFree, IsPlainMove}
+use Rattle.machine.specs.Access.{allows_by, stack_pointer}
+use Rattle.machine.specs.Frame.{SameFrame}
+use Rattle.machine.specs.Machine.{AreRegs, IsPlainStart, Machine, entry_pointer}
+use Rattle.machine.specs.Operands.{operand}
 use Rattle.machine.specs.Run.{Goes, Returns, run_of}
-use Rattle.machine.specs.Straight.{regs_through}
+use Rattle.machine.specs.Step.{free_by, step_of, tested}
+use Rattle.machine.specs.Straight.{computed, regs_after, regs_through, value_at, written}
 use Rattle.machine.specs.declared.state.RunEnd.TheVariants.{Returned, Running}
-use Rattle.machine.proofs.Moving.{step_at, step_goes}
+use Rattle.machine.proofs.Keeping.{move_keeps_regs}
+use Rattle.machine.proofs.Moves.{moved, step_at, step_moves}
 use Rattle.machine.proofs.Runs.{one_more}
 
 free-kept : (o : Operand) (regs : List ℕ) (v : ℕ) → IsRegister o → IsFree o → slice_index (written regs o v) 4 ≡ slice_index regs 4
@@ -36,10 +41,6 @@ pub moves_keep : (moves : List Insn) (regs : List ℕ) → AllByRecursion IsPlai
 moves_keep [] regs each = refl
 moves_keep (i ∷ is) regs each = moves_keep is (regs_after i regs) each.1 ∙ move_keeps i regs each.0
 
--- a plain move is no return
-pub no_return : (i : Insn) → IsPlainMove i → i.op ≢ Ret
-no_return i m e = subst IsMoveOp e m.op
-
 -- the instruction where the rest of a function begins
 pub at_rest : (xs : List Insn) (k : ℕ) (x : Insn) (rest : List Insn) → drop k xs ≡ x ∷ rest → (slice_get xs k ≡ Some x) × (drop (suc k) xs ≡ rest)
 at_rest [] zero x rest h = absurd (cc)
@@ -47,51 +48,75 @@ at_rest [] (suc k) x rest h = absurd (cc)
 at_rest (y ∷ ys) zero x rest h = (cc, cc)
 at_rest (y ∷ ys) (suc k) x rest h = at_rest ys k x rest h
 
--- the state s with these registers at this place
-abbrev pub standing : Machine → List ℕ → ℕ → Machine
-standing s regs place = record s { regs = regs; place = place }
+-- the state after plain moves
+abbrev pub state_through : List ℕ → List Insn → Machine → Machine
+state_through pool [] s = s
+state_through pool (i ∷ is) s = state_through pool is (moved pool i s)
+
+pub through-regs : (pool : List ℕ) (moves : List Insn) (s : Machine) → (state_through pool moves s).regs ≡ regs_through moves s.regs
+through-regs pool [] s = refl
+through-regs pool (i ∷ is) s = through-regs pool is (moved pool i s)
+
+pub through-memory : (pool : List ℕ) (moves : List Insn) (s : Machine) → (state_through pool moves s).memory ≡ s.memory
+through-memory pool [] s = refl
+through-memory pool (i ∷ is) s = through-memory pool is (moved pool i s)
+
+pub through_frame : (pool : List ℕ) (moves : List Insn) (s : Machine) → SameFrame s (state_through pool moves s)
+through_frame pool [] s = record { entry = refl; regions = refl; stack = refl; vecs = refl }
+through_frame pool (i ∷ is) s =
+    let rest = through_frame pool is (moved pool i s) in
+    record { entry = rest.entry; regions = rest.regions; stack = rest.stack; vecs = rest.vecs }
 
 -- A run that comes to moves goes through them.
-pub through_moves : (insns : List Insn) (s : Machine) (moves rest : List Insn) (k : ℕ) (regs : List ℕ)
-    → drop k insns ≡ moves ++ rest → AllByRecursion IsPlainMove moves
-    → run_of (step_of insns) s k ≡ (standing s regs k, Running)
-    → (run_of (step_of insns) s (k + length moves) ≡ (standing s (regs_through moves regs) (k + length moves), Running))
+pub through_moves : (insns : List Insn) (pool : List ℕ) (s t : Machine) (moves rest : List Insn) (k : ℕ)
+    → drop k insns ≡ moves ++ rest → AllByRecursion IsPlainMove moves → AreRegs t.regs → t.place ≡ k → run_of (step_of insns pool) s k ≡ (t, Running)
+    → (run_of (step_of insns pool) s (k + length moves) ≡ (state_through pool moves t, Running))
     × (drop (k + length moves) insns ≡ rest)
-through_moves insns s [] rest k regs left each h = rw add-zero (h, left)
-through_moves insns s (i ∷ is) rest k regs left each h =
+    × ((state_through pool moves t).place ≡ k + length moves)
+through_moves insns pool s t [] rest k left each all at h = rw add-zero (h, left, at)
+through_moves insns pool s t (i ∷ is) rest k left each all at h =
     let here = at_rest insns k i (is ++ rest) left in
-    let goes = step_goes insns (standing s regs k) i here.0 (no_return i each.0) in
-    let next : advanced i (standing s regs k) ≡ standing s (regs_after i regs) (suc k) = λ j. standing s (regs_after i regs) (add-one k j) in
-    let then = one_more (step_of insns) s (standing s regs k) k (Goes (advanced i (standing s regs k))) h goes in
-    let stands : run_of (step_of insns) s (suc k) ≡ (standing s (regs_after i regs) (suc k), Running) = then ∙ (λ j. (next j, Running)) in
+    let there : slice_get insns t.place ≡ Some i = ap (slice_get insns) at ∙ here.0 in
+    let goes = step_moves insns pool t i there each.0 all in
+    let come : run_of (step_of insns pool) s (suc k) ≡ (moved pool i t, Running) = one_more (step_of insns pool) s t k (Goes (moved pool i t)) h goes in
+    let next : t.place + 1 ≡ suc k = omega arith in
+    let kept = move_keeps_regs i each.0.source each.0.target t.regs each.0.move all in
     let count : suc k + length is ≡ k + suc (length is) = omega arith in
     subst
-    (λ (n : ℕ). (run_of (step_of insns) s n ≡ (standing s (regs_through is (regs_after i regs)) n, Running)) × (drop n insns ≡ rest))
+    (λ (n : ℕ). (run_of (step_of insns pool) s n ≡ (state_through pool is (moved pool i t), Running)) × (drop n insns ≡ rest)
+    × ((state_through pool is (moved pool i t)).place ≡ n))
     count
-    (through_moves insns s is rest (suc k) (regs_after i regs) here.1 each.1 stands)
+    (through_moves insns pool s (moved pool i t) is rest (suc k) here.1 each.1 kept next come)
 
 -- at a return the stack pointer is that of the entry
-returns_at : (insns : List Insn) (t : Machine) (last : Insn) → slice_get insns t.place ≡ Some last → last.op ≡ Ret
-    → slice_index t.regs 4 ≡ slice_index t.entry 4 → step_of insns t ≡ Returns
-returns_at insns t last at op sp =
-    step_at insns t last at
-    ∙ ap (λ (o : Op). tested (op_allows o t) (executed o last t)) op
-    ∙ ap (λ (b : Bool). tested b Returns) (eq-eqb (slice_index t.regs 4) (slice_index t.entry 4) sp)
+returns_at : (insns : List Insn) (pool : List ℕ) (t : Machine) (last : Insn) → slice_get insns t.place ≡ Some last → last.op ≡ Ret
+    → stack_pointer t ≡ entry_pointer t → step_of insns pool t ≡ Returns
+returns_at insns pool t last at op sp =
+    step_at insns pool t last at
+    ∙ ap (λ (o : Op). tested (allows_by o last t) (free_by pool o last t)) op
+    ∙ ap (λ (b : Bool). tested b Returns) (eq-eqb (stack_pointer t) (entry_pointer t) sp)
 
--- A plain function returns at its last instruction, with the registers after its moves.
-pub plain-returns : (insns moves : List Insn) (last : Insn) (s : Machine) → insns ≡ moves ++ last ∷ [] → AllByRecursion IsPlainMove moves → IsReturn last → IsStart s
-    → run_of (step_of insns) s (length insns) ≡ (standing s (regs_through moves s.regs) (length moves), Returned (length insns))
-plain-returns insns moves last s whole each returns start =
+-- A plain function returns at its last instruction, in the state after its moves.
+pub plain-returns : (insns : List Insn) (pool : List ℕ) (moves : List Insn) (last : Insn) (s : Machine)
+    → insns ≡ moves ++ last ∷ [] → AllByRecursion IsPlainMove moves → IsReturn last → IsPlainStart s
+    → run_of (step_of insns pool) s (length insns) ≡ (state_through pool moves s, Returned (length insns))
+plain-returns insns pool moves last s whole each returns plain =
+    let start = plain.start in
     let n = length moves in
-    let t = standing s (regs_through moves s.regs) n in
-    let begun : run_of (step_of insns) s 0 ≡ (standing s s.regs 0, Running) = λ j. (record s { place = start.first j }, Running) in
-    let through = through_moves insns s moves (last ∷ []) 0 s.regs whole each begun in
-    let come : run_of (step_of insns) s n ≡ (t, Running) =
-    subst (λ (k : ℕ). run_of (step_of insns) s k ≡ (standing s (regs_through moves s.regs) k, Running)) (zero-add n) through.0
+    let t = state_through pool moves s in
+    let through = through_moves insns pool s s moves (last ∷ []) 0 whole each start.valid.regs start.first refl in
+    let come : run_of (step_of insns pool) s n ≡ (t, Running) =
+    subst (λ (k : ℕ). run_of (step_of insns pool) s k ≡ (t, Running)) (zero-add n) through.0
     in
     let left : drop n insns ≡ last ∷ [] = subst (λ (k : ℕ). drop k insns ≡ last ∷ []) (zero-add n) through.1 in
+    let stands : t.place ≡ n = through.2 ∙ zero-add n in
     let at = at_rest insns n last [] left in
-    let sp = moves_keep moves s.regs each ∙ ap (λ (regs : List ℕ). slice_index regs 4) start.entered in
-    let ended = one_more (step_of insns) s t n Returns come (returns_at insns t last at.0 returns.op sp) in
+    let there : slice_get insns t.place ≡ Some last = ap (slice_get insns) stands ∙ at.0 in
+    let sp : stack_pointer t ≡ entry_pointer t =
+    ap (λ (regs : List ℕ). slice_index regs 4) (through-regs pool moves s)
+    ∙ moves_keep moves s.regs each
+    ∙ ap (λ (regs : List ℕ). slice_index regs 4) (start.entered ∙ sym (through_frame pool moves s).entry)
+    in
+    let ended = one_more (step_of insns pool) s t n Returns come (returns_at insns pool t last there returns.op sp) in
     let count : suc n ≡ length insns = omega (arith, ap length whole, length-append moves (last ∷ [])) in
-    subst (λ (k : ℕ). run_of (step_of insns) s k ≡ (t, Returned k)) count ended
+    subst (λ (k : ℕ). run_of (step_of insns pool) s k ≡ (t, Returned k)) count ended

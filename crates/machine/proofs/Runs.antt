@@ -1,17 +1,10 @@
 -- Runs over states of any kind: a run that is over stays, and two runs of one start have one end.
 use Rattle.std.proofs.Common.{◌≡◌, ℕ, zero, suc, ◌+◌, ◌-◌, ◌<◌, ◌≤◌, refl, sym, ◌∙◌, ap, subst, add-zero, add-suc, add-one, add_comm, arith}
-use Rattle.machine.specs.Run.{Step, Goes, Returns, Faults, MeetsUnset, Run, run_of, stepped, ended_by, end_of}
+use Rattle.machine.specs.Run.{Step, Goes, Returns, Faults, MeetsUnset, IsOver, Run, end_of, ended_by, later, run_of, stepped}
 use Rattle.machine.specs.Stepping.{StepsAs}
 use Rattle.machine.specs.declared.state.RunEnd.{RunEnd}
 use Rattle.machine.specs.declared.state.RunEnd.TheVariants.{Returned, Faulted, Unset, Running}
 use Rattle.machine.specs.declared.state.StepEnd.TheVariants as ends
-
--- the run has ended
-abbrev pub IsOver : RunEnd → Type 0
-IsOver (Returned i) = Unit {0}
-IsOver (Faulted i) = Unit {0}
-IsOver (Unset i) = Unit {0}
-IsOver Running = ⊥
 
 over_stays : {S : Type 0} (step : S → Step S) (t : S) (n : ℕ) (e : RunEnd) → IsOver e → stepped step n (t, e) ≡ (t, e)
 over_stays step t n (Returned i) over = refl
@@ -94,3 +87,52 @@ pub run-faulted : {S : Type 0} (step : S → Step S) (s t u : S) (i n : ℕ) →
     → run_of step s n ≡ (u, Faulted (i + 1))
 run-faulted step s t u i n h k lt =
     rw add-one (run-ended step s t u (Faulted (suc i)) Faults i n tt refl h (step-fault (step t) t u k) lt)
+
+ended-later : {S : Type 0} (s : S) (l n : ℕ) (p : Step S) → ended_by s (suc (l + n)) p ≡ later l (ended_by s (suc n) p)
+ended-later s l n (Goes next) = refl
+ended-later s l n Returns = λ j. (s, Returned (sym (add-suc l n) j))
+ended-later s l n Faults = λ j. (s, Faulted (sym (add-suc l n) j))
+ended-later s l n MeetsUnset = λ j. (s, Unset (sym (add-suc l n) j))
+
+stepped-later : {S : Type 0} (step : S → Step S) (s : S) (l n : ℕ) (e : RunEnd) → stepped step (suc (l + n)) (later l (s, e)) ≡ later l (stepped step (suc n) (s, e))
+stepped-later step s l n (Returned i) = refl
+stepped-later step s l n (Faulted i) = refl
+stepped-later step s l n (Unset i) = refl
+stepped-later step s l n Running = ended-later s l n (step s)
+
+-- A run of l + m steps is a run of l steps, and from where it has come to one of m.
+pub run-from : {S : Type 0} (step : S → Step S) (s t : S) (l m : ℕ) → run_of step s l ≡ (t, Running) → run_of step s (l + m) ≡ later l (run_of step t m)
+run-from step s t l zero h = rw add-zero h
+run-from step s t l (suc m) h =
+    rw add-suc
+    (ap (stepped step (suc (l + m))) (run-from step s t l m h) ∙ stepped-later step (run_of step t m).0 l m (run_of step t m).1)
+
+-- a run of one step and then of more
+pub run-goes : {S : Type 0} (step : S → Step S) (s t : S) (m : ℕ) → step s ≡ Goes t → run_of step s (suc m) ≡ later 1 (run_of step t m)
+run-goes step s t m h =
+    let one : run_of step s (suc zero) ≡ (t, Running) = ap (ended_by s 1) h in
+    let count : 1 + m ≡ suc m = omega arith in
+    subst (λ (n : ℕ). run_of step s n ≡ later 1 (run_of step t m)) count (run-from step s t 1 m one)
+
+kept-by : {S : Type 0} (step : S → Step S) (R : S → S → Type 0) → ((s t : S) → step s ≡ Goes t → R s t) → ((s t u : S) → R s t → R t u → R s u)
+    → (s t : S) (n : ℕ) (p : Step S) → step t ≡ p → R s t → R s (ended_by t n p).0
+kept-by step R each joined s t n (Goes next) is h = joined s t next h (each t next is)
+kept-by step R each joined s t n Returns is h = h
+kept-by step R each joined s t n Faults is h = h
+kept-by step R each joined s t n MeetsUnset is h = h
+
+one-kept : {S : Type 0} (step : S → Step S) (R : S → S → Type 0) → ((s t : S) → step s ≡ Goes t → R s t) → ((s t u : S) → R s t → R t u → R s u)
+    → (s t : S) (n : ℕ) (e : RunEnd) → R s t → R s (stepped step n (t, e)).0
+one-kept step R each joined s t n (Returned i) h = h
+one-kept step R each joined s t n (Faulted i) h = h
+one-kept step R each joined s t n (Unset i) h = h
+one-kept step R each joined s t n Running h = kept-by step R each joined s t n (step t) refl h
+
+-- What relates each state to itself, and a state to the next, and is carried from step to step, relates a start to each end.
+pub run_keeps : {S : Type 0} (step : S → Step S) (R : S → S → Type 0) → ((s : S) → R s s) → ((s t u : S) → R s t → R t u → R s u)
+    → ((s t : S) → step s ≡ Goes t → R s t) → (s : S) (n : ℕ) → R s (run_of step s n).0
+run_keeps step R same joined each s zero = same s
+run_keeps step R same joined each s (suc n) =
+    let here = run_keeps step R same joined each s n in
+    let t = (run_of step s n).0 in
+    one-kept step R each joined s t (suc n) (run_of step s n).1 here

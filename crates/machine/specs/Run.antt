@@ -1,5 +1,5 @@
 -- Steps and runs, over states of any kind.
-use Rattle.std.specs.Prelude.{ℕ, zero, suc}
+use Rattle.std.specs.Prelude.{ℕ, zero, suc, ◌+◌}
 use Rattle.machine.specs.declared.state.RunEnd.{RunEnd}
 use Rattle.machine.specs.declared.state.RunEnd.TheVariants.{Returned, Faulted, Unset, Running}
 
@@ -36,3 +36,17 @@ run_of step s (suc n) = stepped step (suc n) (run_of step s n)
 -- how it ends within n steps
 abbrev pub end_of : {S : Type 0} → (S → Step S) → S → ℕ → RunEnd
 end_of step s n = (run_of step s n).1
+
+-- the run has ended
+abbrev pub IsOver : RunEnd → Type 0
+IsOver (Returned i) = Unit {0}
+IsOver (Faulted i) = Unit {0}
+IsOver (Unset i) = Unit {0}
+IsOver Running = ⊥
+
+-- a run that begins l steps later
+abbrev pub later : {S : Type 0} → ℕ → Run S → Run S
+later l (s, Returned i) = (s, Returned (l + i))
+later l (s, Faulted i) = (s, Faulted (l + i))
+later l (s, Unset i) = (s, Unset (l + i))
+later l (s, Running) = (s, Running)

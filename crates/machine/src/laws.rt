@@ -1,24 +1,75 @@
-ghost use Rattle.std.specs.Prelude.{◌*◌, ◌^◌, ◌<◌, ℕ, length, max};
+ghost use Rattle.std.specs.Prelude.{◌≡◌, ℕ, ◌+◌, ◌*◌, ◌^◌, ◌<◌, List, Option, length, max};
+ghost use Rattle.insn_table.specs.declared.insn.Insn.{Insn};
 ghost use Rattle.insn_table.specs.Plain.{IsPlain};
 ghost use Rattle.insn_table.specs.Sound.{IsClosed};
 ghost use Rattle.machine.specs.Equivalent.{AreEquivalent};
-ghost use Rattle.machine.specs.Machine.{Machine, IsStart, SameRax, step_of};
+ghost use Rattle.machine.specs.Frame.{AreTested, SameFrame, SameUnwritable};
+ghost use Rattle.machine.specs.Machine.{IsPlainStart, Machine, SameRax};
+ghost use Rattle.machine.specs.Path.{Arrived, Back, FallsWithin, Fell, Through, allowed_along, by_test, way};
+ghost use Rattle.machine.specs.Run.{Goes, IsOver, later, run_of};
+ghost use Rattle.machine.specs.declared.state.RunEnd.{RunEnd};
+ghost use Rattle.machine.specs.declared.state.RunEnd.TheVariants.{Returned, Running};
+ghost use Rattle.machine.specs.Step.{allows_step, free_step, step_of};
 ghost use Rattle.machine.specs.Straight.{LeaveTheSame, OnlyReturns};
 
 use insn_table::Function;
 
-/// The law that a plain function can be run, returns at its last instruction from each start
-/// state, and ends in no other way. It does nothing.
+/// The law that a plain function can be run, and that with any pool of constants it returns at its
+/// last instruction from each start state, and ends in no other way. It does nothing.
 pub fn plain_functions_return(f: &Function)
     requires { IsPlain f.now.insns }
     ensures closed { length f.now.insns < 2 ^ 32 → IsClosed f.now.insns }
-    ensures returns { (s : Machine) → IsStart s → OnlyReturns f.now.insns s }
+    ensures returns { (pool : List ℕ) (s : Machine) → IsPlainStart s → OnlyReturns f.now.insns pool s }
 {}
 
-/// The law that two plain functions are equivalent where their moves leave the same in %rax. It
-/// does nothing.
+/// The law that two plain functions, with any pools of constants, are equivalent where their moves
+/// leave the same in %rax. It does nothing.
 pub fn plain_functions_agree(f: &Function, g: &Function)
     requires { LeaveTheSame f.now.insns g.now.insns }
-    ensures { AreEquivalent IsStart SameRax (2 * max (length f.now.insns) (length g.now.insns))
-        (step_of f.now.insns) (step_of g.now.insns) }
+    ensures { (pool_f pool_g : List ℕ) → AreEquivalent IsPlainStart SameRax (2 * max (length f.now.insns) (length g.now.insns))
+        (step_of f.now.insns pool_f) (step_of g.now.insns pool_g) }
+{}
+
+/// The laws of runs, which hold of every step: a run that is over stays as it is, and a run of l + m
+/// steps is one of l steps and, from where it has come to, one of m. It does nothing.
+pub fn run_law()
+    ensures over { (insns : List Insn) (pool : List ℕ) (s t : Machine) (e : RunEnd) (n k : ℕ) → IsOver e
+        → run_of (step_of insns pool) s n ≡ (t, e) → run_of (step_of insns pool) s (n + k) ≡ (t, e) }
+    ensures parts { (insns : List Insn) (pool : List ℕ) (s t : Machine) (l m : ℕ) → run_of (step_of insns pool) s l ≡ (t, Running)
+        → run_of (step_of insns pool) s (l + m) ≡ later l (run_of (step_of insns pool) t m) }
+{}
+
+/// The law of a path: where the free run arrives, the run under the tests is the same where every
+/// test along the path holds, and falls otherwise. It does nothing.
+pub fn path_law()
+    ensures { (insns : List Insn) (pool : List ℕ) (path : List ℕ) (next : Option ℕ) (s : Machine)
+        → Arrived (way (λ t. t.place) (free_step insns pool) path next s)
+        → way (λ t. t.place) (step_of insns pool) path next s
+        ≡ by_test (allowed_along (allows_step insns) (free_step insns pool) path s) (way (λ t. t.place) (free_step insns pool) path next s) }
+{}
+
+/// The law of what a way says of the run: one that is through still goes on after as many steps as
+/// the path has places, and stands at the next place; one that is back has returned by the last of
+/// them; one that fell has faulted within them. It does nothing.
+pub fn way_law()
+    ensures through { (insns : List Insn) (pool : List ℕ) (path : List ℕ) (next : Option ℕ) (s t : Machine)
+        → way (λ u. u.place) (step_of insns pool) path next s ≡ Through t
+        → (run_of (step_of insns pool) s (length path) ≡ (t, Running)) × (Some t.place ≡ next) }
+    ensures back { (insns : List Insn) (pool : List ℕ) (path : List ℕ) (next : Option ℕ) (s t : Machine)
+        → way (λ u. u.place) (step_of insns pool) path next s ≡ Back t
+        → run_of (step_of insns pool) s (length path) ≡ (t, Returned (length path)) }
+    ensures fell { (insns : List Insn) (pool : List ℕ) (path : List ℕ) (next : Option ℕ) (s : Machine)
+        → way (λ u. u.place) (step_of insns pool) path next s ≡ Fell → FallsWithin (step_of insns pool) s (length path) }
+{}
+
+/// The law of what a step and a run leave as it was: the entry registers, the regions, the stack
+/// range and the vectors; and, where each `lea` writes to a register, each byte of the memory that
+/// neither lies in a region that may be written nor among the declared stack bytes. It does nothing.
+pub fn step_frame_law()
+    ensures step { (insns : List Insn) (pool : List ℕ) (s t : Machine) → step_of insns pool s ≡ Goes t → SameFrame s t }
+    ensures step_memory { (insns : List Insn) (pool : List ℕ) (s t : Machine) → AreTested insns → step_of insns pool s ≡ Goes t
+        → SameUnwritable s t }
+    ensures run { (insns : List Insn) (pool : List ℕ) (s : Machine) (n : ℕ) → SameFrame s (run_of (step_of insns pool) s n).0 }
+    ensures run_memory { (insns : List Insn) (pool : List ℕ) (s : Machine) (n : ℕ) → AreTested insns
+        → SameUnwritable s (run_of (step_of insns pool) s n).0 }
 {}

@@ -1,10 +1,14 @@
-//! The machine that runs functions, one step at a time, and laws of plain functions on it.
+//! The machine that runs functions, one step at a time, and laws of runs and steps.
 #![tactic(auto)]
 
 mod laws;
+mod operands;
+mod spans;
 mod state;
 #[cfg(test)]
 mod tests;
 
-pub use laws::{plain_functions_agree, plain_functions_return};
-pub use state::{RunEnd, State, StepEnd};
+pub use laws::{
+    path_law, plain_functions_agree, plain_functions_return, run_law, step_frame_law, way_law,
+};
+pub use state::{Region, RunEnd, Span, State, StepEnd};

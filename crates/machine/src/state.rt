@@ -1,11 +1,28 @@
-ghost use Rattle.std.specs.Prelude.{◌≡◌, ◌<◌, ◌^◌, ℕ, length, slice_index};
-ghost use Rattle.insn_table.specs.Sound.{IsClosed, IsMoveOf, IsSource};
-ghost use Rattle.insn_table.specs.declared.insn.Operand.{Operand};
-ghost use Rattle.machine.specs.Machine.{AreRegs, IsStart, start_at, step_of, regs_after, value_at};
+ghost use Rattle.std.specs.Prelude.{◌≡◌, ℕ, ◌+◌, ◌-◌, ◌*◌, ◌/◌, ◌%◌, ◌^◌, ◌<◌, ◌≤◌, Some, IfOk, slice_get, slice_index, true, false, length, if◌then◌else◌};
+ghost use Rattle.std.specs.List.{list_all};
+ghost use Rattle.machine.specs.Access as access;
+ghost use Rattle.machine.specs.Family.{completed, goes, holds_of, insn_step, IsReady, passes, passes_accesses};
+ghost use Rattle.machine.specs.Machine.{offset_from};
+ghost use Rattle.machine.specs.Operands as operands;
+ghost use Rattle.machine.specs.Spanned.{IsSpanned};
 ghost use Rattle.machine.specs.Run.{run_of};
+ghost use Rattle.machine.specs.Step as steps;
 ghost use Rattle.machine.specs.Stepping.{StepsAs};
+ghost use Rattle.instruction_semantics.specs.Words.{bit};
+ghost use Rattle.machine.specs.Runnable.{HasNumbers, HasRowOf, IsNumber, IsRunnable, IsRunnableFunction, IsWidth};
+ghost use Rattle.machine.specs.Kept.{byte_of, IsKept, pure_of};
+ghost use Rattle.machine.specs.Start.{IsCopy, kept_start};
 
+use crate::operands::{
+    Family, arity, condition, destination, displacement_of, jump_place, low_bits, merged,
+    op_family, operand, register_number, source, source_width, target, width_at, writes,
+};
+use crate::spans::{byte_at, copy_spans, put_word, word_in, word_of};
+use align_base::{Flags, Memory};
 use insn_table::{Function, Insn, Op, Operand};
+use lane_ops::{flags, scalar};
+use lane_views::Bytes32;
+use std::alloc::Global;
 use std::marker::Model;
 
 /// How a step ended.
@@ -31,78 +48,103 @@ pub enum RunEnd {
     Running,
 }
 
-/// The state of the machine: the general registers, what they held at the entry, and the place of
-/// the next instruction. Contracts see it as a `Machine`.
+/// A region of memory: `len` bytes from `base` on, which may be read, and written where `write` is.
+#[derive(Clone, Copy, Debug, PartialEq, Eq)]
+pub struct Region {
+    pub base: u64,
+    pub len: u64,
+    pub write: bool,
+}
+
+/// Bytes from an address on.
+#[derive(Drop)]
+pub struct Span {
+    pub at: u64,
+    pub bytes: Vec<u8>,
+}
+
+/// The state of the machine. Contracts see it as what is kept of one, and `pure_of` says what that
+/// means.
 #[derive(Drop)]
 pub struct State {
     regs: [u64; 16],
     entry: [u64; 16],
+    flags: Flags,
+    vecs: [Bytes32; 16],
+    spans: Vec<Span>,
+    regions: Vec<Region>,
+    stack: u64,
     place: u32,
 }
 
 impl Model for State {
-    ghost use Rattle.std.specs.Prelude.{◌≡◌, length};
-    ghost use Rattle.machine.specs.Machine.{Machine};
+    ghost use Rattle.machine.specs.Kept.{Kept};
 
-    ghost Value = { Machine };
+    ghost Value = { Kept };
 
-    ghost view = { λ s. record { regs = s.regs; entry = s.entry; place = s.place } };
+    ghost use Rattle.machine.specs.Holding.{IsHeld, kept_of};
 
-    ghost invariant = { λ s. (length s.regs ≡ 16) × (length s.entry ≡ 16) };
+    ghost view = { kept_of };
+
+    ghost invariant = { λ s. IsHeld (kept_of s) };
 }
 
-// Each item of an array of u64 is below 2^64.
-fn are_regs(regs: &[u64])
-    requires { length regs.now ≡ 16 }
-    ensures { AreRegs regs.now }
-{}
-
-// What an operand holds.
-fn value_of(regs: &[u64; 16], operand: &Operand) -> u64
-    requires { IsSource operand.now }
-    ensures { result ≡ value_at regs.now operand.now }
-{
-    match operand {
-        Operand::Reg { n, .. } => regs[*n as usize],
-        Operand::Imm(v) => *v,
-        // No other operand is a source.
-        _ => 0,
-    }
-}
-
-// Runs an instruction that is no return on the registers.
-fn execute(regs: &mut [u64; 16], insn: &Insn)
-    requires { (source target : Operand) × IsMoveOf insn.now source target }
-    ensures value { regs.new ≡ regs_after insn.now regs.old }
-    ensures sixteen { length regs.new ≡ 16 }
-{
-    let value = value_of(regs, &insn.args[0]);
-    if let Operand::Reg { n, .. } = insn.args[1] {
-        let old = regs[n as usize];
-        regs[n as usize] = match insn.op {
-            Op::Mov => value,
-            Op::Add => old.wrapping_add(value),
-            Op::Sub => old.wrapping_sub(value),
-            _ => old,
-        };
-    }
-}
+const UNSET: Flags = Flags {
+    cf: None,
+    pf: None,
+    zf: None,
+    sf: None,
+    of: None,
+};
 
 impl State {
-    /// The start state of plain code with these registers.
-    pub fn plain(regs: [u64; 16]) -> State
-        ensures state { result ≡ start_at regs }
-        ensures start { IsStart result }
+    /// The start state with these registers, vectors, spans, regions and number of declared stack
+    /// bytes. The spans are in order and apart, and have each byte of the regions and of the stack
+    /// range.
+    pub fn new(
+        regs: [u64; 16],
+        vecs: [Bytes32; 16],
+        spans: Vec<Span>,
+        regions: Vec<Region>,
+        stack: u64,
+    ) -> State
+        requires { IsKept (kept_start regs vecs spans.items regions.items stack) }
+        ensures { result ≡ kept_start regs vecs spans.items regions.items stack }
     {
-        are_regs(&regs);
         State {
             regs,
             entry: regs,
+            flags: UNSET,
+            vecs,
+            spans,
+            regions,
+            stack,
             place: 0,
         }
     }
 
-    /// What register `n` holds.
+    /// A copy.
+    pub fn copy(&self, alloc: Global) -> Result<State, Memory>
+        ensures { IfOk result (IsCopy self.now) }
+    {
+        let spans = copy_spans(alloc, &self.spans)?;
+        let regions = match Vec::from_slice(alloc, &self.regions) {
+            Ok(regions) => regions,
+            Err(_) => return Err(Memory),
+        };
+        Ok(State {
+            regs: self.regs,
+            entry: self.entry,
+            flags: self.flags,
+            vecs: self.vecs,
+            spans,
+            regions,
+            stack: self.stack,
+            place: self.place,
+        })
+    }
+
+    /// What general register `n` holds.
     pub fn reg(&self, n: u8) -> u64
         requires { n < 16 }
         ensures { result ≡ slice_index self.now.regs n }
@@ -110,12 +152,27 @@ impl State {
         self.regs[n as usize]
     }
 
-    /// What register `n` held at the entry.
+    /// What general register `n` held at the entry.
     pub fn entry(&self, n: u8) -> u64
         requires { n < 16 }
         ensures { result ≡ slice_index self.now.entry n }
     {
         self.entry[n as usize]
+    }
+
+    /// What vector register `n` holds.
+    pub fn vec(&self, n: u8) -> &Bytes32
+        requires { n < 16 }
+        ensures { slice_get self.now.vecs n ≡ Some result.now.bytes }
+    {
+        &self.vecs[n as usize]
+    }
+
+    /// The byte at an address; one in no span is 0.
+    pub fn byte(&self, at: u64) -> u8
+        ensures { result ≡ byte_of self.now.spans at }
+    {
+        byte_at(&self.spans, at)
     }
 
     /// The place of the next instruction.
@@ -124,32 +181,340 @@ impl State {
     {
         self.place
     }
+}
+
+// What a step reads.
+impl State {
+    // What a base or an index adds to an address.
+    fn held(&self, n: Option<u8>) -> u64
+        requires { IsNumber n }
+        ensures { result ≡ operands.held self.now.regs n }
+    {
+        match n {
+            None => 0,
+            Some(n) => self.regs[n as usize],
+        }
+    }
+
+    // The address of a memory operand, 0 of another.
+    fn address(&self, operand: Operand) -> u64
+        requires { HasNumbers operand }
+        ensures { result ≡ operands.address_of self.now.regs operand }
+    {
+        match operand {
+            Operand::Mem {
+                base,
+                index,
+                scale,
+                disp,
+            } => self
+                .held(base)
+                .wrapping_add(self.held(index).wrapping_mul(scale as u64))
+                .wrapping_add(displacement_of(disp)),
+            _ => 0,
+        }
+    }
+
+    // What an operand of `w` bits holds.
+    fn value(&self, pool: &[u8], w: u32, operand: Operand) -> u64
+        requires width { IsWidth w }
+        requires numbers { HasNumbers operand }
+        ensures value { result ≡ operands.value_of pool.now w (pure_of self.now) operand }
+        ensures below { result < 2 ^ w }
+    {
+        match operand {
+            Operand::Reg { n, .. } => low_bits(w, self.regs[n as usize]),
+            Operand::Imm(v) => low_bits(w, v),
+            Operand::Mem { .. } => word_of(&self.spans, self.address(operand), w / 8),
+            Operand::Pool(at) => word_in(pool, at as usize, w / 8),
+            // No other operand is read as a number.
+            _ => 0,
+        }
+    }
+
+    // Whether some region has the bytes and the right.
+    fn may_access(&self, at: u64, bytes: u32, write: bool) -> bool
+        ensures { result ≡ access.is_allowed (pure_of self.now) (record { at = at; bytes = bytes; write = write }) }
+    {
+        self.regions.iter().any(|region| (!write || region.write)
+            && has_access(region, at, bytes as u64))
+    }
+
+    // Whether operand `k` may be accessed, if it is in memory.
+    fn allows_operand(&self, insn: &Insn, k: usize) -> bool
+        requires small { k < 3 }
+        requires numbers { (k : ℕ) → HasNumbers (operands.operand insn.now k) }
+        ensures { result ≡ list_all (access.is_allowed (pure_of self.now)) (access.access_at insn.now (pure_of self.now) k) }
+    {
+        let operand = operand(insn, k);
+        match operand {
+            Operand::Mem { .. } => self.may_access(
+                self.address(operand),
+                width_at(insn, k) / 8,
+                k + 1 == arity(insn) && writes(insn.op),
+            ),
+            _ => true,
+        }
+    }
+
+    // Whether each operand in memory may be accessed.
+    fn allows_operands(&self, insn: &Insn) -> bool
+        requires numbers { (k : ℕ) → HasNumbers (operands.operand insn.now k) }
+        ensures { result ≡ passes_accesses insn.now (pure_of self.now) }
+    {
+        self.allows_operand(insn, 0) && self.allows_operand(insn, 1) && self.allows_operand(insn, 2)
+    }
+
+    // Whether eight bytes lie among the declared stack bytes.
+    fn is_on_stack(&self, at: u64) -> bool
+        ensures { result ≡ access.is_on_stack (pure_of self.now) at }
+    {
+        let base = self.entry[4].wrapping_sub(self.stack);
+        self.stack >= 8 && at.wrapping_sub(base) <= self.stack - 8
+    }
+
+    // Whether the instruction's tests hold.
+    fn allows(&self, family: Family, insn: &Insn) -> bool
+        requires numbers { (k : ℕ) → HasNumbers (operands.operand insn.now k) }
+        ensures { result ≡ passes family insn.now (pure_of self.now) }
+    {
+        match family {
+            Family::Pushing => self.is_on_stack(self.regs[4].wrapping_sub(8)),
+            Family::Popping => self.is_on_stack(self.regs[4]),
+            Family::Return => self.regs[4] == self.entry[4],
+            Family::Address => true,
+            Family::Computing => self.allows_operands(insn),
+            Family::Choice => self.allows_operands(insn),
+            Family::Setting => self.allows_operands(insn),
+            Family::Branch => self.allows_operands(insn),
+            Family::Jump => self.allows_operands(insn),
+            Family::Idle => self.allows_operands(insn),
+        }
+    }
+}
+
+// What a step changes.
+impl State {
+    // Writes the `w` bits of a word to an operand.
+    fn put(&mut self, target: Operand, w: u32, word: u64)
+        requires width { IsWidth w }
+        requires word { word < 2 ^ w }
+        requires numbers { HasNumbers target }
+        requires spanned { IsSpanned self.old w target }
+        ensures state { pure_of self.new ≡ operands.with_value w (pure_of self.old) target word }
+        ensures place { self.new.place ≡ self.old.place }
+    {
+        match target {
+            Operand::Reg { n, .. } => {
+                let old = self.regs[n as usize];
+                self.regs[n as usize] = merged(w, old, word);
+            }
+            Operand::Mem { .. } => {
+                let at = self.address(target);
+                put_word(&mut self.spans, at, w / 8, word);
+            }
+            _ => {}
+        }
+    }
+
+    // Writes a row's result, where the operation writes one.
+    fn put_result(&mut self, insn: &Insn, word: u64)
+        requires width { IsWidth insn.now.w }
+        requires word { word < 2 ^ insn.now.w }
+        requires numbers { (n : ℕ) → HasNumbers (operands.operand insn.now n) }
+        requires spanned { access.writes insn.now.op ≡ true → IsSpanned self.old insn.now.w (steps.target_of insn.now.op insn.now) }
+        ensures state { pure_of self.new ≡ (if access.writes insn.now.op
+            then operands.with_value insn.now.w (pure_of self.old) (steps.target_of insn.now.op insn.now) word else pure_of self.old) }
+        ensures place { self.new.place ≡ self.old.place }
+    {
+        if writes(insn.op) {
+            self.put(target(insn), insn.w, word);
+        }
+    }
+
+    // Ends a row: its result, its flags and the next place.
+    fn complete(&mut self, insn: &Insn, word: u64, flags: Flags)
+        requires width { IsWidth insn.now.w }
+        requires word { word < 2 ^ insn.now.w }
+        requires numbers { (n : ℕ) → HasNumbers (operands.operand insn.now n) }
+        requires spanned { access.writes insn.now.op ≡ true → IsSpanned self.old insn.now.w (steps.target_of insn.now.op insn.now) }
+        requires next { self.old.place + 1 < 2 ^ 32 }
+        ensures { pure_of self.new ≡ completed insn.now (pure_of self.old) word flags }
+    {
+        self.put_result(insn, word);
+        self.flags = flags;
+        self.place += 1;
+    }
+
+    // What a row's destination holds.
+    #[tactic(auto, using(crate::proofs::Targets::targets))]
+    fn destination_value(&self, pool: &[u8], insn: &Insn) -> u64
+        requires width { IsWidth insn.now.w }
+        requires numbers { (n : ℕ) → HasNumbers (operands.operand insn.now n) }
+        ensures value { result ≡ steps.destination_value pool.now insn.now (pure_of self.now) }
+        ensures below { result < 2 ^ insn.now.w }
+    {
+        self.value(pool, insn.w, destination(insn))
+    }
+
+    // What a row's source holds, but for `lea`.
+    #[tactic(auto, using(crate::proofs::Targets::targets))]
+    fn source_value(&self, pool: &[u8], insn: &Insn) -> u64
+        requires width { IsWidth insn.now.w }
+        requires numbers { (n : ℕ) → HasNumbers (operands.operand insn.now n) }
+        requires row { HasRowOf insn.now.op insn.now }
+        ensures value { result ≡ operands.value_of pool.now (access.source_width insn.now.op insn.now.w) (pure_of self.now)
+            (steps.source_of insn.now.op insn.now) }
+        ensures below { result < 2 ^ access.source_width insn.now.op insn.now.w }
+    {
+        self.value(pool, source_width(insn.op, insn.w), source(insn))
+    }
+
+    // A computing row.
+    fn compute(&mut self, pool: &[u8], insn: &Insn)
+        requires { IsReady Family.Computing insn.now self.old }
+        ensures { pure_of self.new ≡ steps.after_row pool.now insn.now (pure_of self.old) 0 }
+    {
+        let a = self.destination_value(pool, insn);
+        let b = self.source_value(pool, insn);
+        let word = scalar(insn.op, insn.w, a, b);
+        let after = flags(insn.op, insn.w, a, b, self.flags);
+        self.complete(insn, word, after);
+    }
+
+    // `lea`: the source's address.
+    fn load_address(&mut self, pool: &[u8], insn: &Insn)
+        requires { IsReady Family.Address insn.now self.old }
+        ensures { pure_of self.new ≡ steps.after_row pool.now insn.now (pure_of self.old) 0 }
+    {
+        let word = low_bits(insn.w, self.address(operand(insn, 0)));
+        let flags = self.flags;
+        self.complete(insn, word, flags);
+    }
+
+    // A move by condition, which writes the old value where the condition does not hold.
+    fn choose(&mut self, pool: &[u8], insn: &Insn, holds: bool)
+        requires { IsReady Family.Choice insn.now self.old }
+        ensures { pure_of self.new ≡ steps.after_row pool.now insn.now (pure_of self.old) (bit holds) }
+    {
+        let a = self.destination_value(pool, insn);
+        let b = self.source_value(pool, insn);
+        let word = if holds { b } else { a };
+        let flags = self.flags;
+        self.complete(insn, word, flags);
+    }
+
+    // A byte set by condition.
+    fn set(&mut self, pool: &[u8], insn: &Insn, holds: bool)
+        requires { IsReady Family.Setting insn.now self.old }
+        ensures { pure_of self.new ≡ steps.after_row pool.now insn.now (pure_of self.old) (bit holds) }
+    {
+        let word = if holds { 1 } else { 0 };
+        let flags = self.flags;
+        self.complete(insn, word, flags);
+    }
+
+    // `push`: the old value, also of the stack pointer itself.
+    fn push(&mut self, insn: &Insn)
+        requires { IsReady Family.Pushing insn.now self.old }
+        ensures { pure_of self.new ≡ steps.pushed insn.now (pure_of self.old) }
+    {
+        let n = register_number(operand(insn, 0));
+        let value = self.regs[n as usize];
+        let below = self.regs[4].wrapping_sub(8);
+        put_word(&mut self.spans, below, 8, value);
+        self.regs[4] = below;
+        self.place += 1;
+    }
+
+    // `pop`: into the stack pointer, the value read stays.
+    fn pop(&mut self, insn: &Insn)
+        requires { IsReady Family.Popping insn.now self.old }
+        ensures { pure_of self.new ≡ steps.popped insn.now (pure_of self.old) }
+    {
+        let n = register_number(operand(insn, 0));
+        let at = self.regs[4];
+        let value = word_of(&self.spans, at, 8);
+        self.regs[4] = at.wrapping_add(8);
+        self.regs[n as usize] = value;
+        self.place += 1;
+    }
+
+    // Goes to a place.
+    fn go_to(&mut self, place: u32)
+        ensures { pure_of self.new ≡ steps.at_place (pure_of self.old) place }
+    {
+        self.place = place;
+    }
+
+    // An instruction whose tests hold and whose condition has this value.
+    fn execute(&mut self, family: Family, pool: &[u8], insn: &Insn, holds: bool) -> StepEnd
+        requires { IsReady family insn.now self.old }
+        ensures { StepsAs (goes family pool.now insn.now (pure_of self.old) holds) (pure_of self.old) result (pure_of self.new) }
+    {
+        let next = self.place + 1;
+        match family {
+            Family::Computing => self.compute(pool, insn),
+            Family::Address => self.load_address(pool, insn),
+            Family::Choice => self.choose(pool, insn, holds),
+            Family::Setting => self.set(pool, insn, holds),
+            Family::Branch => self.go_to(if holds {
+                jump_place(operand(insn, 0))
+            } else {
+                next
+            }),
+            Family::Jump => self.go_to(jump_place(operand(insn, 0))),
+            Family::Pushing => self.push(insn),
+            Family::Popping => self.pop(insn),
+            Family::Return => return StepEnd::Return,
+            Family::Idle => self.go_to(next),
+        }
+        StepEnd::Next
+    }
+
+    // The value of the operation's condition, `None` where a flag that it reads is unset. An operation
+    // without one has any value.
+    fn condition_value(&self, op: Op) -> Option<bool>
+        ensures { result ≡ holds_of op self.now.flags }
+    {
+        match condition(op) {
+            None => Some(false),
+            Some(cond) => lane_ops::holds(cond, &self.flags),
+        }
+    }
+
+    // Runs an instruction.
+    fn run_insn(&mut self, pool: &[u8], insn: &Insn) -> StepEnd
+        requires runnable { (n : ℕ) × IsRunnable n insn.now }
+        requires next { self.old.place + 1 < 2 ^ 32 }
+        ensures { StepsAs (insn_step pool.now insn.now (pure_of self.old)) (pure_of self.old) result (pure_of self.new) }
+    {
+        let Some(holds) = self.condition_value(insn.op) else {
+            return StepEnd::Unset;
+        };
+        let family = op_family(insn.op);
+        if !self.allows(family, insn) {
+            return StepEnd::Fault;
+        }
+        self.execute(family, pool, insn, holds)
+    }
 
     /// Runs one instruction of the function.
     pub fn step(&mut self, f: &Function) -> StepEnd
-        requires closed { IsClosed f.now.insns }
+        requires function { IsRunnableFunction f.now.insns }
         requires inside { self.old.place < length f.now.insns }
-        ensures steps { StepsAs (step_of f.now.insns self.old) self.old result self.new }
+        ensures steps { StepsAs (steps.step_of f.now.insns f.now.pool (pure_of self.old)) (pure_of self.old) result (pure_of self.new) }
         ensures inside { self.new.place < length f.now.insns }
     {
-        let insn = &f.insns.as_slice()[self.place as usize];
-        if let Op::Ret = insn.op {
-            // A return needs the stack pointer of the entry.
-            if self.regs[4] == self.entry[4] {
-                return StepEnd::Return;
-            }
-            return StepEnd::Fault;
-        }
-        execute(&mut self.regs, insn);
-        self.place += 1;
-        StepEnd::Next
+        let insn = f.insns.as_slice()[self.place as usize];
+        self.run_insn(f.pool.as_slice(), &insn)
     }
 
     /// Runs the function for at most `n` steps.
     pub fn run(&mut self, f: &Function, n: u64) -> RunEnd
-        requires closed { IsClosed f.now.insns }
+        requires function { IsRunnableFunction f.now.insns }
         requires inside { self.old.place < length f.now.insns }
-        ensures runs { run_of (step_of f.now.insns) self.old n ≡ (self.new, result) }
+        ensures runs { run_of (steps.step_of f.now.insns f.now.pool) (pure_of self.old) n ≡ (pure_of self.new, result) }
         ensures inside { self.new.place < length f.now.insns }
     {
         for i in 0..n {
@@ -162,4 +527,11 @@ impl State {
         }
         RunEnd::Running
     }
+}
+
+// Whether the region has the bytes.
+fn has_access(region: &Region, at: u64, bytes: u64) -> bool
+    ensures { result ≡ access.holds_access region.now (record { at = at; bytes = bytes; write = false }) }
+{
+    region.len >= bytes && at.wrapping_sub(region.base) <= region.len - bytes
 }

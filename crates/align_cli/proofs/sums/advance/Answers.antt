@@ -1,7 +1,7 @@
 use Rattle.std.proofs.Common.{◌≡◌, ◌∙◌, ap, get_or, arith}
 use Rattle.std.proofs.lemmas.Option.{slice_get-get_or}
 use Rattle.insn_table.specs.declared.insn.Operand.TheVariants.{Reg}
-use Rattle.machine.specs.Machine.{computed}
+use Rattle.machine.specs.Straight.{computed}
 use Rattle.align_cli.specs.Sums.{sum_value}
 use Rattle.align_cli.proofs.Tracking.{regs_after-move, set-tracks}
 use Rattle.align_cli.proofs.sums.advance.Goals as goal

@@ -3,4 +3,7 @@ use Rattle.machine.proofs.PlainLaws.{plain-only_returns}
 use Rattle.machine.proofs.laws.plain_functions_return.Goals as goal
 
 pub returns : goal.returns
-returns c = record { closed = plain_closed c.args.f.now.insns c.requires; returns = plain-only_returns c.args.f.now.insns c.requires }
+returns c = record {
+  closed = plain_closed c.args.f.now.insns c.requires;
+  returns = λ pool. plain-only_returns c.args.f.now.insns pool c.requires;
+}

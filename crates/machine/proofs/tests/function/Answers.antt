@@ -1,11 +1,11 @@
-use Rattle.std.proofs.Common.{◌≡◌, [], ◌∷◌, ◌++◌, ◌∙◌, ap, refl, sym, subst, arith}
-use Rattle.insn_table.specs.Sound.{IsClosed}
-use Rattle.machine.proofs.Closing.{closed_by}
+use Rattle.std.proofs.Common.{◌≡◌, [], ◌∷◌, ◌++◌, ◌∙◌, ap, sym, subst}
+use Rattle.machine.specs.Runnable.{IsRunnableFunction}
+use Rattle.machine.proofs.TestFunctions.{runnable_by}
 use Rattle.machine.proofs.tests.function.Goals as goal
 
 pub returns : goal.returns
 returns c =
-    let e : c.of.result ≡ c.args.moves.now ++ c.insn.result ∷ [] =
-    c.of.ensures ∙ c.in_ok-push.ensures.items ∙ ap (λ xs. xs ++ c.insn.result ∷ []) c.in_ok-insns.ensures.items in
-    subst IsClosed (sym e)
-    (closed_by c.args.moves.now c.insn.result c.requires.moves (rw c.insn.ensures (record { op = refl; args = refl; width = refl; legacy = refl })) (omega arith))
+    let e : c.of.result ≡ c.args.body.now ++ c.leave.result ∷ [] =
+    c.of.ensures ∙ c.in_ok-push.ensures.items ∙ ap (λ xs. xs ++ c.leave.result ∷ []) c.in_ok-insns.ensures.items in
+    subst IsRunnableFunction (sym e)
+    (runnable_by c.args.body.now c.leave.result c.requires.body c.leave.ensures.runnable c.leave.ensures.leaves c.requires.some c.requires.few)

@@ -1,0 +1,151 @@
+-- What is allowed lies in spans.
+use Rattle.std.proofs.Common.{◌≡◌, ◌⊎◌, inl, inr, ℕ, ◌+◌, ◌-◌, ◌/◌, ◌%◌, ◌^◌, ◌<◌, ◌≤◌, Bool, true, false, not, nat_lt, ◌&&◌, ◌||◌, List, [], ◌∷◌, ◌++◌, refl, sym, ◌∙◌, subst, arith}
+use Rattle.std.specs.List.{AllByRecursion, list_all, list_any}
+use Rattle.std.proofs.lemmas.Bool.Decides.{nat_tests}
+use Rattle.std.proofs.lemmas.List.Folds.{list_all-append}
+use Rattle.align_base.specs.declared.op.Op.{Op}
+use Rattle.align_base.specs.declared.op.Op.TheVariants as ops
+use Rattle.insn_table.specs.declared.insn.Insn.{Insn}
+use Rattle.insn_table.specs.declared.insn.Operand.{Operand}
+use Rattle.insn_table.specs.declared.insn.Operand.TheVariants.{Reg, Imm, Mem, Vec, Pool, Target, Nothing}
+use Rattle.machine.specs.declared.state.Region.{Region}
+use Rattle.machine.specs.Access.{Access, access_at, access_of, arity, holds_access, is_allowed, is_nothing, is_on_stack, writes}
+use Rattle.machine.specs.Family.{passes_accesses}
+use Rattle.machine.specs.Kept.{IsKept, IsRegion, Kept, is_spanned, pure_of}
+use Rattle.machine.specs.Machine.{Machine, offset_from, stack_base}
+use Rattle.machine.specs.Operands.{effective, operand}
+use Rattle.machine.specs.Runnable.{IsRegister}
+use Rattle.machine.specs.Spanned.{AreSpanned, IsSpanned}
+use Rattle.machine.specs.Step.{target_of}
+
+-- the j-th of n bytes that lie within len ones from a base on
+within_region : (base len at n j : ℕ) → base + len ≤ 2 ^ 64 → at < 2 ^ 64
+    → (not (nat_lt len n) && not (nat_lt (len - n) (offset_from base at))) ≡ true → j < n
+    → (base ≤ (at + j) % 2 ^ 64) × ((at + j) % 2 ^ 64 < base + len)
+within_region base len at n j fits small h low =
+    let bounds : (n ≤ len) × (offset_from base at ≤ len - n) = grind (arith, nat_tests) in
+    (omega (arith, bounds.0, bounds.1), omega (arith, bounds.0, bounds.1))
+
+-- the test of one region
+region_test : (w r h : Bool) → (not w || r) && h ≡ true → h ≡ true
+region_test w r true e = refl
+region_test w r false e = grind arith
+
+both_true : (a b : Bool) → (a && b) ≡ true → (a ≡ true) × (b ≡ true)
+both_true true b h = (refl, h)
+both_true false b h = cc
+
+either_true : (a b : Bool) → (a || b) ≡ true → (a ≡ true) ⊎ (b ≡ true)
+either_true a b h = grind arith
+
+region_spanned : (k : Kept) (a : Access) (rs : List Region) (at n j : ℕ) → a.at ≡ at → a.bytes ≡ n → at < 2 ^ 64
+    → AllByRecursion (IsRegion (pure_of k)) rs
+    → AllByRecursion (λ r. (x : ℕ) → r.base ≤ x → x < r.base + r.len → is_spanned k.spans x ≡ true) rs
+    → list_any (λ r. (not a.write || r.write) && holds_access r a) rs ≡ true → j < n → is_spanned k.spans ((at + j) % 2 ^ 64) ≡ true
+region_spanned k a [] at n j same bytes small each spanned h low = cc
+region_spanned k a (r ∷ rs) at n j same bytes small each spanned h low =
+    elim (either_true ((not a.write || r.write) && holds_access r a) (list_any (λ r. (not a.write || r.write) && holds_access r a) rs) h) [
+      | inl here ↦
+          let held : holds_access r a ≡ true = (both_true (not a.write || r.write) (holds_access r a) here).1 in
+          let bounds = within_region r.base r.len at n j each.0.fits small (rw (same, bytes) at held) low in
+          spanned.0 ((at + j) % 2 ^ 64) bounds.0 bounds.1
+      | inr there ↦ region_spanned k a rs at n j same bytes small each.1 spanned.1 there low
+    ]
+
+pub allowed_spanned : (k : Kept) (at n : ℕ) (w : Bool) → at < 2 ^ 64 → IsKept k
+    → is_allowed (pure_of k) (record { at = at; bytes = n; write = w }) ≡ true → AreSpanned k at n
+allowed_spanned k at n w small h allowed j low =
+    region_spanned k (record { at = at; bytes = n; write = w }) k.regions at n j refl refl small h.regions h.spanned allowed low
+
+-- eight bytes among the declared stack bytes
+pub stack_spanned : (k : Kept) (at : ℕ) → at < 2 ^ 64 → IsKept k → is_on_stack (pure_of k) at ≡ true → AreSpanned k at 8
+stack_spanned k at small h on j low =
+    h.stack_spanned ((at + j) % 2 ^ 64) (omega arith) (stack_offset (stack_base (pure_of k)) k.stack at j low on h.small)
+  where
+    stack_offset : (base stack at j : ℕ) → j < 8 → (not (nat_lt stack 8) && not (nat_lt (stack - 8) (offset_from base at))) ≡ true → stack ≤ 4096
+        → offset_from base ((at + j) % 2 ^ 64) < stack + 8
+    stack_offset base stack at j low h small =
+        let bounds : (8 ≤ stack) × (offset_from base at ≤ stack - 8) = grind (arith, nat_tests) in
+        omega (arith, bounds.0, bounds.1)
+
+-- an operand that may be written is spanned
+operand_spanned : (k : Kept) (o : Operand) (w : ℕ) → IsKept k → list_all (is_allowed (pure_of k)) (access_of (pure_of k) o w true) ≡ true → IsSpanned k w o
+operand_spanned k (Mem base index scale disp) w h e =
+    allowed_spanned k (effective k.regs base index scale disp) (w / 8) true (omega arith) h
+    (both_true (is_allowed (pure_of k) (record { at = effective k.regs base index scale disp; bytes = w / 8; write = true })) true e).0
+operand_spanned k (Reg n v) w h e = tt
+operand_spanned k (Imm v) w h e = tt
+operand_spanned k (Vec n v) w h e = tt
+operand_spanned k (Pool n) w h e = tt
+operand_spanned k (Target n) w h e = tt
+operand_spanned k Nothing w h e = tt
+
+-- the last operand has the instruction's width, and is written where the operation writes
+last_of_one : (i : Insn) (s : Machine) → arity i ≡ 1 → writes i.op ≡ true → access_at i s 0 ≡ access_of s (operand i 0) i.w true
+last_of_one i s many w = rw (many, w) refl
+
+last_of_two : (i : Insn) (s : Machine) → arity i ≡ 2 → writes i.op ≡ true → access_at i s 1 ≡ access_of s (operand i 1) i.w true
+last_of_two i s many w = rw (many, w) refl
+
+last_of_three : (i : Insn) (s : Machine) → arity i ≡ 3 → writes i.op ≡ true → access_at i s 2 ≡ access_of s (operand i 2) i.w true
+last_of_three i s many w = rw (many, w) refl
+
+last_spanned : (i : Insn) (k : Kept) (n : ℕ) → IsKept k → access_at i (pure_of k) n ≡ access_of (pure_of k) (operand i n) i.w true
+    → list_all (is_allowed (pure_of k)) (access_at i (pure_of k) n) ≡ true → IsSpanned k i.w (operand i n)
+last_spanned i k n h last e =
+    operand_spanned k (operand i n) i.w h (subst (λ (xs : List Access). list_all (is_allowed (pure_of k)) xs ≡ true) last e)
+
+nothing_spanned : (k : Kept) (w : ℕ) (o : Operand) → is_nothing o ≡ true → IsSpanned k w o
+nothing_spanned k w (Mem base index scale disp) e = cc
+nothing_spanned k w (Reg n v) e = tt
+nothing_spanned k w (Imm v) e = tt
+nothing_spanned k w (Vec n v) e = tt
+nothing_spanned k w (Pool n) e = tt
+nothing_spanned k w (Target n) e = tt
+nothing_spanned k w Nothing e = tt
+
+-- the last operand, where each access is allowed
+last_by : (i : Insn) (k : Kept) (a b c : Bool) → is_nothing (operand i 0) ≡ a → is_nothing (operand i 1) ≡ b → is_nothing (operand i 2) ≡ c
+    → IsKept k → writes i.op ≡ true
+    → list_all (is_allowed (pure_of k)) (access_at i (pure_of k) 0) ≡ true
+    → list_all (is_allowed (pure_of k)) (access_at i (pure_of k) 1) ≡ true
+    → list_all (is_allowed (pure_of k)) (access_at i (pure_of k) 2) ≡ true
+    → IsSpanned k i.w (operand i (arity i - 1))
+last_by i k true b c x y z h w e f g =
+    let many : arity i ≡ 0 = rw x refl in
+    rw many (nothing_spanned k i.w (operand i 0) x)
+last_by i k false true c x y z h w e f g =
+    let many : arity i ≡ 1 = rw (x, y) refl in
+    rw many (last_spanned i k 0 h (last_of_one i (pure_of k) many w) e)
+last_by i k false false true x y z h w e f g =
+    let many : arity i ≡ 2 = rw (x, y, z) refl in
+    rw many (last_spanned i k 1 h (last_of_two i (pure_of k) many w) f)
+last_by i k false false false x y z h w e f g =
+    let many : arity i ≡ 3 = rw (x, y, z) refl in
+    rw many (last_spanned i k 2 h (last_of_three i (pure_of k) many w) g)
+
+three_true : (p : Access → Bool) (xs ys zs : List Access) → list_all p (xs ++ ys ++ zs) ≡ true → (list_all p xs ≡ true) × (list_all p ys ≡ true) × (list_all p zs ≡ true)
+three_true p xs ys zs h =
+    let two = both_true (list_all p (xs ++ ys)) (list_all p zs) (sym (list_all-append p (xs ++ ys) zs) ∙ h) in
+    let one = both_true (list_all p xs) (list_all p ys) (sym (list_all-append p xs ys) ∙ two.0) in
+    (one.0, one.1, two.1)
+
+target_by : (op : Op) (i : Insn) (k : Kept) → IsSpanned k i.w (operand i (arity i - 1)) → IsSpanned k i.w (target_of op i)
+target_by ops.Cltq i k h = tt
+target_by _ i k h = h
+
+-- what a row writes is spanned, where its tests hold
+pub target_spanned : (i : Insn) (k : Kept) → IsKept k → passes_accesses i (pure_of k) ≡ true → writes i.op ≡ true → IsSpanned k i.w (target_of i.op i)
+target_spanned i k h passes w =
+    let all = three_true (is_allowed (pure_of k)) (access_at i (pure_of k) 0) (access_at i (pure_of k) 1) (access_at i (pure_of k) 2) passes in
+    target_by i.op i k (last_by i k (is_nothing (operand i 0)) (is_nothing (operand i 1)) (is_nothing (operand i 2)) refl refl refl h w all.0 all.1 all.2)
+
+-- a register is no memory
+pub register_spanned : (k : Kept) (w : ℕ) (o : Operand) → IsRegister o → IsSpanned k w o
+register_spanned k w (Reg n v) is = tt
+register_spanned k w (Mem base index scale disp) is = absurd is
+register_spanned k w (Imm v) is = absurd is
+register_spanned k w (Vec n v) is = absurd is
+register_spanned k w (Pool n) is = absurd is
+register_spanned k w (Target n) is = absurd is
+register_spanned k w Nothing is = absurd is

@@ -1,0 +1,80 @@
+-- What keeps a state kept: the same spans in place, the same regions, the same entry and stack.
+use Rattle.std.proofs.Common.{◌≡◌, ℕ, ◌+◌, ◌<◌, ◌≤◌, ◌^◌, ◌%◌, true, List, [], ◌∷◌, length, refl, sym, ◌∙◌, ap, subst}
+use Rattle.std.specs.List.{AllByRecursion}
+use Rattle.machine.specs.declared.state.Region.{Region}
+use Rattle.machine.specs.declared.state.Span.{Span}
+use Rattle.machine.specs.Holding.{IsHeld}
+use Rattle.machine.specs.Kept.{IsKept, IsRegion, Kept, byte_of, is_spanned, pure_of}
+use Rattle.machine.specs.Machine.{IsInStack, Machine}
+use Rattle.machine.specs.Spans.{places}
+use Rattle.machine.specs.Start.{IsCopy, contents}
+use Rattle.machine.proofs.Ordering.{ordered_by_places, spanned_by_places}
+
+region_kept : (a b : Machine) (r : Region) → b.entry ≡ a.entry → b.stack ≡ a.stack → IsRegion a r → IsRegion b r
+region_kept a b r entry stack h = record {
+  fits = h.fits;
+  apart = λ at low high inside. h.apart at low high (in_stack a b at entry stack inside);
+}
+  where
+    in_stack : (a b : Machine) (at : ℕ) → b.entry ≡ a.entry → b.stack ≡ a.stack → IsInStack b at → IsInStack a at
+    in_stack a b at entry stack inside = rw (entry, stack) at inside
+
+all_regions : (P Q : Region → Type 0) (rs : List Region) → ((r : Region) → P r → Q r) → AllByRecursion P rs → AllByRecursion Q rs
+all_regions P Q [] h a = tt
+all_regions P Q (r ∷ rs) h a = (h r a.0, all_regions P Q rs h a.1)
+
+pub kept_by_places : (old new : Kept) → new.entry ≡ old.entry → new.stack ≡ old.stack → new.regions ≡ old.regions
+    → places new.spans ≡ places old.spans → IsKept old → IsKept new
+kept_by_places old new entry stack regions spans h = record {
+  ordered = ordered_by_places 0 old.spans new.spans spans h.ordered;
+  regions = subst (λ (rs : List Region). AllByRecursion (IsRegion (pure_of new)) rs) (sym regions)
+      (all_regions (IsRegion (pure_of old)) (IsRegion (pure_of new)) old.regions (λ r. region_kept (pure_of old) (pure_of new) r entry stack) h.regions);
+  spanned = subst (λ (rs : List Region). AllByRecursion (λ r. (at : ℕ) → r.base ≤ at → at < r.base + r.len → is_spanned new.spans at ≡ true) rs) (sym regions)
+      (all_regions (λ r. (at : ℕ) → r.base ≤ at → at < r.base + r.len → is_spanned old.spans at ≡ true) (λ r. (at : ℕ) → r.base ≤ at → at < r.base + r.len → is_spanned new.spans at ≡ true)
+      old.regions (λ r g at low high. spanned_by_places old.spans new.spans at spans ∙ g at low high) h.spanned);
+  stack_spanned = λ at low inside. spanned_by_places old.spans new.spans at spans ∙ h.stack_spanned at low (rw (entry, stack) at inside);
+  small = rw stack h.small;
+}
+
+-- a State after a change of registers, of flags, of the bytes of its spans or of its place
+pub held_by_places : (old new : Kept) → length new.regs ≡ 16 → new.entry ≡ old.entry → new.vecs ≡ old.vecs → new.stack ≡ old.stack
+    → new.regions ≡ old.regions → places new.spans ≡ places old.spans → IsHeld old → IsHeld new
+held_by_places old new regs entry vecs stack regions spans h = record {
+  regs = regs;
+  entry = ap (λ (xs : List ℕ). length xs) entry ∙ h.entry;
+  vecs = ap (λ (xs : List (List ℕ)). length xs) vecs ∙ h.vecs;
+  kept = kept_by_places old new entry stack regions spans h.kept;
+}
+
+first_content : (a b : ℕ × List ℕ) (more rest : List (ℕ × List ℕ)) → a ∷ more ≡ b ∷ rest → a ≡ b
+first_content a b more rest e = cc
+
+more_contents : (a b : ℕ × List ℕ) (more rest : List (ℕ × List ℕ)) → a ∷ more ≡ b ∷ rest → more ≡ rest
+more_contents a b more rest e = cc
+
+pub places_by_contents : (old new : List Span) → contents new ≡ contents old → places new ≡ places old
+places_by_contents [] [] e = refl
+places_by_contents [] (n ∷ ns) e = cc
+places_by_contents (s ∷ ss) [] e = cc
+places_by_contents (s ∷ ss) (n ∷ ns) e =
+    let first = first_content (n.at, n.bytes.items) (s.at, s.bytes.items) (contents ns) (contents ss) e in
+    let more = more_contents (n.at, n.bytes.items) (s.at, s.bytes.items) (contents ns) (contents ss) e in
+    λ i. ((first i).0, length (first i).1) ∷ places_by_contents ss ns more i
+
+pub byte_by_contents : (old new : List Span) (x : ℕ) → contents new ≡ contents old → byte_of new x ≡ byte_of old x
+byte_by_contents [] [] x e = refl
+byte_by_contents [] (n ∷ ns) x e = cc
+byte_by_contents (s ∷ ss) [] x e = cc
+byte_by_contents (s ∷ ss) (n ∷ ns) x e =
+    let first = first_content (n.at, n.bytes.items) (s.at, s.bytes.items) (contents ns) (contents ss) e in
+    let more = more_contents (n.at, n.bytes.items) (s.at, s.bytes.items) (contents ns) (contents ss) e in
+    let at : n.at ≡ s.at = ap (λ (p : ℕ × List ℕ). p.0) first in
+    let bytes : n.bytes.items ≡ s.bytes.items = ap (λ (p : ℕ × List ℕ). p.1) first in
+    rw (at, bytes, byte_by_contents ss ns x more) refl
+
+pub copy_of : (k : Kept) (spans : List Span) (regions : List Region) → contents spans ≡ contents k.spans → regions ≡ k.regions
+    → IsCopy k (record k { spans = spans; regions = regions })
+copy_of k spans regions same kept = record {
+  pure = λ i. record (pure_of k) { memory = λ x. byte_by_contents k.spans spans (x % 2 ^ 64) same i; regions = kept i };
+  spans = same;
+}

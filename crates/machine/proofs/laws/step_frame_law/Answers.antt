@@ -1,0 +1,10 @@
+use Rattle.machine.proofs.Frames.{run_frame, run_memory, step_frame, step_memory}
+use Rattle.machine.proofs.laws.step_frame_law.Goals as goal
+
+pub returns : goal.returns
+returns c = record {
+  step = step_frame;
+  step_memory = step_memory;
+  run = run_frame;
+  run_memory = λ insns pool s n each. run_memory insns pool each s n;
+}

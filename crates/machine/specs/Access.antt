@@ -1,0 +1,86 @@
+-- What an instruction may access, and whether all of it is allowed. Regions, the stack range and the test of `ret` are
+-- this project's own.
+use Rattle.std.specs.Prelude.{ℕ, ◌+◌, ◌-◌, ◌/◌, ◌==◌, Bool, true, false, not, ◌&&◌, ◌||◌, nat_le, nat_lt, List, [], ◌∷◌, ◌++◌, slice_index, if◌then◌else◌}
+use Rattle.std.specs.List.{list_all, list_any}
+use Rattle.align_base.specs.declared.op.Op.{Op}
+use Rattle.align_base.specs.declared.op.Op.TheVariants as ops
+use Rattle.insn_table.specs.declared.insn.Insn.{Insn}
+use Rattle.insn_table.specs.declared.insn.Operand.{Operand}
+use Rattle.insn_table.specs.declared.insn.Operand.TheVariants.{Mem, Nothing}
+use Rattle.machine.specs.declared.state.Region.{Region}
+use Rattle.machine.specs.Machine.{Machine, offset_from, stack_base}
+use Rattle.machine.specs.Operands.{effective, operand}
+
+-- some bytes from an address on, and whether they are written
+pub record Access : Type 0 where
+  pub at : ℕ
+  pub bytes : ℕ
+  pub write : Bool
+
+-- how many operands an instruction has
+abbrev pub is_nothing : Operand → Bool
+is_nothing Nothing = true
+is_nothing _ = false
+
+abbrev pub arity : Insn → ℕ
+arity i = if is_nothing (operand i 0) then 0 else (if is_nothing (operand i 1) then 1 else (if is_nothing (operand i 2) then 2 else 3))
+
+-- whether the last operand is written, and whether the result needs what it held
+abbrev pub writes : Op → Bool
+writes ops.Cmp = false
+writes ops.Test = false
+writes _ = true
+
+-- the width of the source, the first operand of two or three
+abbrev pub source_width : Op → ℕ → ℕ
+source_width (ops.Movzx m) w = m
+source_width (ops.Movsx m) w = m
+source_width ops.Cltq w = 32
+source_width _ w = w
+
+-- the width of operand k
+abbrev pub width_at : Insn → ℕ → ℕ
+width_at i k = if (k == 0) && nat_le 2 (arity i) then source_width i.op i.w else i.w
+
+-- the access of an operand of w bits: none but of a memory operand
+abbrev pub access_of : Machine → Operand → ℕ → Bool → List Access
+access_of s (Mem base index scale disp) w write = record { at = effective s.regs base index scale disp; bytes = w / 8; write = write } ∷ []
+access_of s _ w write = []
+
+-- operand k is written where it is the last one, and the operation writes
+abbrev pub access_at : Insn → Machine → ℕ → List Access
+access_at i s k = access_of s (operand i k) (width_at i k) (((k + 1) == arity i) && writes i.op)
+
+-- the accesses of an instruction: those of its memory operands, but `lea` makes none
+abbrev pub accesses_by : Op → Insn → Machine → List Access
+accesses_by ops.Lea i s = []
+accesses_by _ i s = access_at i s 0 ++ access_at i s 1 ++ access_at i s 2
+
+abbrev pub accesses : Insn → Machine → List Access
+accesses i s = accesses_by i.op i s
+
+-- the bytes lie in the region
+abbrev pub holds_access : Region → Access → Bool
+holds_access r a = not (nat_lt r.len a.bytes) && not (nat_lt (r.len - a.bytes) (offset_from r.base a.at))
+
+-- some region has the bytes and the right
+abbrev pub is_allowed : Machine → Access → Bool
+is_allowed s a = list_any (λ r. (not a.write || r.write) && holds_access r a) s.regions
+
+-- eight bytes from an address on lie among the declared stack bytes
+abbrev pub is_on_stack : Machine → ℕ → Bool
+is_on_stack s at = not (nat_lt s.stack 8) && not (nat_lt (s.stack - 8) (offset_from (stack_base s) at))
+
+abbrev pub stack_pointer : Machine → ℕ
+stack_pointer s = slice_index s.regs 4
+
+-- each test of an instruction holds: of PUSH and POP that their bytes are declared, of RET that the stack pointer is that
+-- of the entry, of every other that each access is allowed
+abbrev pub allows_by : Op → Insn → Machine → Bool
+allows_by ops.Push i s = is_on_stack s (offset_from 8 (stack_pointer s))
+allows_by ops.Pop i s = is_on_stack s (stack_pointer s)
+allows_by ops.Ret i s = stack_pointer s == slice_index s.entry 4
+allows_by _ i s = list_all (is_allowed s) (accesses i s)
+
+abbrev pub allows : Insn → Machine → Bool
+allows i s = allows_by i.op i s

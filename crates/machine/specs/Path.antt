@@ -1,0 +1,58 @@
+-- What a run does along a path of places and on into the next place, over states of any kind.
+use Rattle.std.specs.Prelude.{◌≡◌, ℕ, ◌==◌, Bool, true, ◌&&◌, List, [], ◌∷◌, Option, Some, None, if◌then◌else◌}
+use Rattle.machine.specs.Run.{Step, Goes, Returns, Faults, MeetsUnset, run_of}
+use Rattle.machine.specs.declared.state.RunEnd.TheVariants.{Faulted}
+
+pub data Way (S : Type 0) : Type 0 where
+  Through : S → Way S  -- each step of the path was taken, and it stands at the next place
+  Back : S → Way S  -- it returned at the path's last place, and no place follows
+  Fell : Way S  -- it faulted at one of the path's places
+  Off : Way S  -- none of these
+
+-- the end of a path
+abbrev pub rested : {S : Type 0} → (S → ℕ) → Option ℕ → S → Way S
+rested place None s = Off
+rested place (Some n) s = if place s == n then Through s else Off
+
+abbrev pub returned_at : {S : Type 0} → S → List ℕ → Option ℕ → Way S
+returned_at s [] None = Back s
+returned_at s [] (Some n) = Off
+returned_at s (p ∷ ps) next = Off
+
+-- one step of a path, and what follows it
+abbrev pub walked : {S : Type 0} → Step S → S → List ℕ → Option ℕ → (S → Way S) → Way S
+walked (Goes t) s left next rest = rest t
+walked Returns s left next rest = returned_at s left next
+walked Faults s left next rest = Fell
+walked MeetsUnset s left next rest = Off
+
+abbrev pub way : {S : Type 0} → (S → ℕ) → (S → Step S) → List ℕ → Option ℕ → S → Way S
+way place step [] next s = rested place next s
+way place step (p ∷ ps) next s = if place s == p then walked (step s) s ps next (way place step ps next) else Off
+
+-- the tests of the steps along a path, from the state on by the free step
+abbrev pub allowed_after : {S : Type 0} → Step S → (S → Bool) → Bool
+allowed_after (Goes t) rest = rest t
+allowed_after Returns rest = true
+allowed_after Faults rest = true
+allowed_after MeetsUnset rest = true
+
+abbrev pub allowed_along : {S : Type 0} → (S → Bool) → (S → Step S) → List ℕ → S → Bool
+allowed_along allows free [] s = true
+allowed_along allows free (p ∷ ps) s = allows s && allowed_after (free s) (allowed_along allows free ps)
+
+-- where the free run arrives, the run is it where every test holds, and falls otherwise
+abbrev pub by_test : {S : Type 0} → Bool → Way S → Way S
+by_test holds w = if holds then w else Fell
+
+abbrev pub Arrived : {S : Type 0} → Way S → Type 0
+Arrived (Through t) = Unit {0}
+Arrived (Back t) = Unit {0}
+Arrived Fell = ⊥
+Arrived Off = ⊥
+
+-- a run that faults within n steps
+pub record FallsWithin {S : Type 0} (step : S → Step S) (s : S) (n : ℕ) : Type 0 where
+  pub at : S
+  pub number : ℕ
+  pub run : run_of step s n ≡ (at, Faulted number)

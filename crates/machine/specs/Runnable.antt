@@ -1,0 +1,76 @@
+-- What running an instruction needs of it: widths and numbers in their ranges.
+use Rattle.std.specs.Prelude.{◌≡◌, ◌⊎◌, ℕ, ◌-◌, ◌^◌, ◌<◌, List, length, Option, Some, None, slice_get}
+use Rattle.align_base.specs.declared.op.Op.{Op}
+use Rattle.align_base.specs.declared.op.Op.TheVariants as ops
+use Rattle.insn_table.specs.declared.insn.Insn.{Insn}
+use Rattle.insn_table.specs.declared.insn.Operand.{Operand}
+use Rattle.insn_table.specs.declared.insn.Operand.TheVariants.{Reg, Imm, Mem, Vec, Pool, Target, Nothing}
+use Rattle.machine.specs.Operands.{operand}
+use Rattle.machine.specs.Step.{jump_place, target_of}
+
+abbrev pub IsWidth : ℕ → Type 0
+IsWidth w = (w ≡ 8) ⊎ ((w ≡ 16) ⊎ ((w ≡ 32) ⊎ (w ≡ 64)))
+
+-- one of the sixteen registers, where there is one
+abbrev pub IsNumber : Option ℕ → Type 0
+IsNumber None = Unit {0}
+IsNumber (Some n) = n < 16
+
+-- each register of the operand is one of the sixteen
+abbrev pub HasNumbers : Operand → Type 0
+HasNumbers (Reg n w) = n < 16
+HasNumbers (Imm v) = Unit {0}
+HasNumbers (Mem base index scale disp) = IsNumber base × IsNumber index
+HasNumbers (Vec n w) = Unit {0}
+HasNumbers (Pool n) = Unit {0}
+HasNumbers (Target n) = Unit {0}
+HasNumbers Nothing = Unit {0}
+
+abbrev pub IsRegister : Operand → Type 0
+IsRegister (Reg n w) = Unit {0}
+IsRegister _ = ⊥
+
+-- the source is a count in the range of its shift
+pub record HasCount (i : Insn) : Type 0 where
+  pub count : ℕ
+  pub source : operand i 0 ≡ Imm count
+  pub some : 0 < count
+  pub below : count < i.w
+
+-- what the row of an operation needs beside registers and a width
+abbrev pub HasRowOf : Op → Insn → Type 0
+HasRowOf ops.Shl i = HasCount i
+HasRowOf ops.Shr i = HasCount i
+HasRowOf ops.Sar i = HasCount i
+HasRowOf ops.Lea i = IsRegister (target_of ops.Lea i)
+HasRowOf (ops.Movzx m) i = IsWidth m × (m < i.w)
+HasRowOf (ops.Movsx m) i = IsWidth m × (m < i.w)
+HasRowOf ops.Cltq i = i.w ≡ 64
+HasRowOf (ops.Set c) i = i.w ≡ 8
+HasRowOf _ i = Unit {0}
+
+-- a jump's place is below the number of instructions
+abbrev pub JumpsBelow : ℕ → Op → Insn → Type 0
+JumpsBelow n (ops.Jump c) i = jump_place (operand i 0) < n
+JumpsBelow n ops.Jmp i = jump_place (operand i 0) < n
+JumpsBelow n _ i = Unit {0}
+
+-- the instruction can be run among n instructions
+pub record IsRunnable (n : ℕ) (i : Insn) : Type 0 where
+  pub width : IsWidth i.w
+  pub numbers : (k : ℕ) → HasNumbers (operand i k)
+  pub row : HasRowOf i.op i
+  pub jump : JumpsBelow n i.op i
+
+-- a return or a jump: what a function may end in
+abbrev pub IsLeaving : Op → Type 0
+IsLeaving ops.Ret = Unit {0}
+IsLeaving ops.Jmp = Unit {0}
+IsLeaving _ = ⊥
+
+-- A function that can be run: it has an instruction and fewer than 2^32, each can be run, and the last one leaves.
+pub record IsRunnableFunction (insns : List Insn) : Type 0 where
+  pub some : 0 < length insns
+  pub few : length insns < 2 ^ 32
+  pub each : (k : ℕ) (i : Insn) → slice_get insns k ≡ Some i → IsRunnable (length insns) i
+  pub last : (i : Insn) → slice_get insns (length insns - 1) ≡ Some i → IsLeaving i.op
