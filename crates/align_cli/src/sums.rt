@@ -1,7 +1,6 @@
 //! What straight code leaves in a register: a sum of entry registers with coefficients, and a constant.
 ghost use Rattle.std.specs.Prelude.{◌≡◌, ◌+◌, ◌-◌, ◌*◌, ◌^◌, ◌%◌, ◌<◌, ℕ, List, length, slice_index, take, IfSome, IfNone};
-ghost use Rattle.insn_table.specs.Plain.{IsPlain, IsPlainMove};
-ghost use Rattle.insn_table.specs.Sound.{IsSource};
+ghost use Rattle.insn_table.specs.Plain.{IsPlain, IsPlainMove, IsSource};
 ghost use Rattle.machine.specs.Machine.{AreRegs};
 ghost use Rattle.machine.specs.Straight.{computed, regs_after, value_at};
 ghost use Rattle.align_cli.specs.Sums.{LeavesInRax, sum_value, TellsApart, Tracks};

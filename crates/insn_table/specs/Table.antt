@@ -15,15 +15,11 @@ shape_of i = record { op = i.op; w = i.w; vex = i.vex }
 abbrev pub IsScale : ℕ → Type 0
 IsScale s = (s ≡ 1) ⊎ ((s ≡ 2) ⊎ ((s ≡ 4) ⊎ (s ≡ 8)))
 
--- any of the sixteen registers but the stack pointer, register 4
-abbrev pub IsIndex : ℕ → Type 0
-IsIndex n = (n < 16) × (n ≡ 4 → ⊥)
-
 -- each register of the operand is one of the sixteen, and each scale one that there is
 abbrev pub HasRegisters : Operand → Type 0
 HasRegisters (Reg n w) = n < 16
 HasRegisters (Imm v) = Unit {0}
-HasRegisters (Mem base index scale disp) = IfSome base (λ n. n < 16) × IfSome index IsIndex × IsScale scale
+HasRegisters (Mem base index scale disp) = IfSome base (λ n. n < 16) × IfSome index (λ n. n < 16) × IsScale scale
 HasRegisters (Vec n w) = n < 16
 HasRegisters (Pool at) = Unit {0}
 HasRegisters (Target place) = Unit {0}

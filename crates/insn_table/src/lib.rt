@@ -19,4 +19,6 @@ pub use fitting::{Misfit, fits};
 pub use insn::{Function, Insn, Insns, Operand};
 pub use shape::Shape;
 pub use spellings::{look_up, rows_are_named, words_stand_once};
-pub use table::{fitted_insns_are_of_the_table, forms_are_apart, table_insns_have_words};
+pub use table::{
+    fitted_insns_are_of_the_table, forms_are_apart, plain_functions_are_closed, table_insns_have_words,
+};

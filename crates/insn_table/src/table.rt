@@ -1,5 +1,5 @@
 //! The laws of the instruction table.
-ghost use Rattle.std.specs.Prelude.{◌≡◌, ◌≤◌, ℕ, List, Some, Ok};
+ghost use Rattle.std.specs.Prelude.{◌≡◌, ◌≤◌, ◌<◌, ◌^◌, ℕ, List, length, Some, Ok};
 ghost use Rattle.std.specs.List.{AllByRecursion, count_by};
 ghost use Rattle.align_base.specs.declared.op.Op.{Op};
 ghost use Rattle.insn_table.specs.declared.insn.Operand.{Operand};
@@ -7,6 +7,8 @@ ghost use Rattle.insn_table.specs.declared.insn.Insn.{Insn};
 ghost use Rattle.insn_table.specs.declared.shape.Shape.{Shape};
 ghost use Rattle.insn_table.specs.Spellings.{named, general_rows};
 ghost use Rattle.insn_table.specs.Forms.{forms, takes, fits_of};
+ghost use Rattle.insn_table.specs.Plain.{IsPlain};
+ghost use Rattle.insn_table.specs.Sound.{IsClosed};
 ghost use Rattle.insn_table.specs.Table.{shape_of, HasRegisters, IsTableInsn};
 
 /// A law: each instruction of the table has a word, which names its shape.
@@ -30,4 +32,10 @@ pub fn fitted_insns_are_of_the_table()
 #[tactic(auto, using(crate::proofs::Apart::apart))]
 pub fn forms_are_apart()
     ensures { (op : Op) (w : ℕ) (args : List Operand) → count_by (takes args) (forms op w) ≤ 1 }
+{}
+
+/// A law: a plain function is closed.
+#[tactic(auto, using(crate::proofs::Closing::closing))]
+pub fn plain_functions_are_closed()
+    ensures { (insns : List Insn) → IsPlain insns → length insns < 2 ^ 32 → IsClosed insns }
 {}

@@ -8,8 +8,7 @@ use Rattle.align_base.specs.declared.op.Op.TheVariants.{Mov, Add, Sub}
 use Rattle.insn_table.specs.declared.insn.Operand.{Operand}
 use Rattle.insn_table.specs.declared.insn.Operand.TheVariants.{Reg, Imm, Mem, Vec, Pool, Target, Nothing}
 use Rattle.insn_table.specs.declared.insn.Insn.{Insn}
-use Rattle.insn_table.specs.Plain.{IsPlainMove}
-use Rattle.insn_table.specs.Sound.{IsMoveOf, IsRegister, IsSignedWord, IsSource}
+use Rattle.insn_table.specs.Plain.{IsMoveOf, IsPlainMove, IsRegister, IsSignedWord, IsSource}
 use Rattle.machine.specs.Machine.{AreRegs}
 use Rattle.machine.specs.Operands.{operand}
 use Rattle.machine.specs.Straight.{computed, regs_after, regs_through, value_at, written}

@@ -7,8 +7,7 @@ use Rattle.align_base.specs.declared.op.Op.TheVariants.{Mov, Add, Sub}
 use Rattle.insn_table.specs.declared.insn.Insn.{Insn}
 use Rattle.insn_table.specs.declared.insn.Operand.{Operand}
 use Rattle.insn_table.specs.declared.insn.Operand.TheVariants.{Reg, Imm, Mem, Vec, Pool, Target, Nothing}
-use Rattle.insn_table.specs.Sound.{IsRegister, IsSource}
-use Rattle.insn_table.specs.Plain.{IsMoveOp, IsPlainMove}
+use Rattle.insn_table.specs.Plain.{IsMoveOp, IsPlainMove, IsRegister, IsSource}
 use Rattle.instruction_semantics.specs.FlagRules.{flags_after}
 use Rattle.machine.specs.Access.{allows}
 use Rattle.machine.specs.Machine.{AreRegs, Machine}

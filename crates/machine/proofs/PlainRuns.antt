@@ -6,8 +6,7 @@ use Rattle.align_base.specs.declared.op.Op.TheVariants.{Ret}
 use Rattle.insn_table.specs.declared.insn.Operand.{Operand}
 use Rattle.insn_table.specs.declared.insn.Operand.TheVariants.{Reg, Imm, Mem, Vec, Pool, Target, Nothing}
 use Rattle.insn_table.specs.declared.insn.Insn.{Insn}
-use Rattle.insn_table.specs.Sound.{IsRegister, IsReturn}
-use Rattle.insn_table.specs.Plain.{IsFree, IsPlainMove}
+use Rattle.insn_table.specs.Plain.{IsFree, IsPlainMove, IsRegister, IsReturn}
 use Rattle.machine.specs.Access.{allows_by, stack_pointer}
 use Rattle.machine.specs.Frame.{SameFrame}
 use Rattle.machine.specs.Machine.{AreRegs, IsPlainStart, Machine, entry_pointer}
