@@ -1,7 +1,6 @@
-ghost use Rattle.std.specs.Prelude.{◌≡◌, ℕ, ◌+◌, ◌*◌, ◌^◌, ◌<◌, List, Option, length, max};
+ghost use Rattle.std.specs.Prelude.{◌≡◌, ℕ, ◌+◌, ◌*◌, List, Option, length, max};
 ghost use Rattle.insn_table.specs.declared.insn.Insn.{Insn};
 ghost use Rattle.insn_table.specs.Plain.{IsPlain};
-ghost use Rattle.insn_table.specs.Sound.{IsClosed};
 ghost use Rattle.machine.specs.Equivalent.{AreEquivalent};
 ghost use Rattle.machine.specs.Frame.{AreTested, SameFrame, SameUnwritable};
 ghost use Rattle.machine.specs.Machine.{IsPlainStart, Machine, SameRax};
@@ -14,12 +13,11 @@ ghost use Rattle.machine.specs.Straight.{LeaveTheSame, OnlyReturns};
 
 use insn_table::Function;
 
-/// The law that a plain function can be run, and that with any pool of constants it returns at its
-/// last instruction from each start state, and ends in no other way. It does nothing.
+/// The law that a plain function, with any pool of constants, returns at its last instruction from
+/// each start state, and ends in no other way. It does nothing.
 pub fn plain_functions_return(f: &Function)
     requires { IsPlain f.now.insns }
-    ensures closed { length f.now.insns < 2 ^ 32 → IsClosed f.now.insns }
-    ensures returns { (pool : List ℕ) (s : Machine) → IsPlainStart s → OnlyReturns f.now.insns pool s }
+    ensures { (pool : List ℕ) (s : Machine) → IsPlainStart s → OnlyReturns f.now.insns pool s }
 {}
 
 /// The law that two plain functions, with any pools of constants, are equivalent where their moves
