@@ -6,5 +6,5 @@ pub mod Operands
 pub mod Statements
 pub mod LineFaults
 pub mod PlainTexts
-pub mod SoundInsns
+pub mod PlainInsns
 pub mod WholeTexts

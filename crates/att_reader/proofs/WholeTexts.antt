@@ -22,7 +22,7 @@ use Rattle.att_reader.specs.Reading.{is_name, behind_label, first_line}
 use Rattle.att_reader.specs.ReadingLines.{function_behind, function_of}
 use Rattle.att_reader.proofs.TextLines as cuts
 use Rattle.att_reader.proofs.LineFaults.{is_return, IsRead, read_item, lines-outcome, close, behind-all, unknown-once}
-use Rattle.att_reader.proofs.SoundInsns.{plain-insns, closed-insns}
+use Rattle.att_reader.proofs.PlainInsns.{plain-insns, closed-insns}
 use Rattle.att_reader.proofs.PlainTexts.{returned-at, label-differs, plain-from, plain-sound, plain-ends, plain-once}
 
 -- the label

@@ -2,3 +2,4 @@ pub mod Rows
 pub mod Judging
 pub mod TableInsns
 pub mod Apart
+pub mod Closing

@@ -20,5 +20,6 @@ pub use insn::{Function, Insn, Insns, Operand};
 pub use shape::Shape;
 pub use spellings::{look_up, rows_are_named, words_stand_once};
 pub use table::{
-    fitted_insns_are_of_the_table, forms_are_apart, plain_functions_are_closed, table_insns_have_words,
+    fitted_insns_are_of_the_table, forms_are_apart, plain_functions_are_closed,
+    table_insns_have_words,
 };

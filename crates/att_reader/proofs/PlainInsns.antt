@@ -1,22 +1,22 @@
--- The instructions of a plain text are plain, and can be run.
+-- The instructions of a plain text are plain, so that they can be run.
 use Rattle.std.proofs.Common.{◌≡◌, ℕ, zero, suc, ◌+◌, ◌-◌, ◌%◌, ◌^◌, ◌<◌, ◌≤◌, ◌⊎◌, inl, inr, List, [], ◌∷◌, length, Some, slice_get, refl, sym, ap, ◌∙◌, subst, arith}
 use Rattle.std.proofs.lemmas.Option.{same_Some, slice_get_within}
 use Rattle.std.specs.Str.Lines.{lines}
-use Rattle.align_base.specs.declared.op.Op.{Op}
-use Rattle.align_base.specs.declared.op.Op.TheVariants.{Mov, Add, Sub, Ret}
+use Rattle.align_base.specs.declared.op.Op.TheVariants.{Ret}
 use Rattle.insn_table.specs.declared.insn.Operand.{Operand}
 use Rattle.insn_table.specs.declared.insn.Insn.{Insn}
 use Rattle.insn_table.specs.declared.insn.Function.{Function}
-use Rattle.insn_table.specs.Sound.{IsSignedWord, IsSource, IsRegister, IsMoveOf, IsReturn, IsSound, HasRow, IsClosed}
-use Rattle.insn_table.specs.Plain.{IsFree, IsMoveOp, IsPlainMove, IsPlain}
+use Rattle.insn_table.specs.Plain.{IsSignedWord, IsSource, IsRegister, IsReturn, IsFree, IsPlainMove, IsPlain}
+use Rattle.insn_table.specs.Sound.{IsClosed}
+use Rattle.insn_table.proofs.Closing.{plain-closed}
 use Rattle.att_reader.specs.PlainText.{register_names, IsRegisterText, IsImmediateText, IsMoveText, IsInsnText, IsPlainText, line_number}
 use Rattle.att_reader.proofs.Statements.{moves-not}
 use Rattle.att_reader.proofs.PlainTexts.{EndsAt, some-at, plain-few}
 
 -- operands
 
-register-sound : (text : List ℕ) (o : Operand) → IsRegisterText text o → IsRegister o × IsSource o × IsFree o
-register-sound text o r =
+register-plain : (text : List ℕ) (o : Operand) → IsRegisterText text o → IsRegister o × IsSource o × IsFree o
+register-plain text o r =
     let low : r.number < 16 = slice_get_within register_names r.number r.name r.known in
     subst (λ (x : Operand). IsRegister x × IsSource x × IsFree x) (sym r.means) ((low, refl), (low, refl), r.free)
 
@@ -24,10 +24,10 @@ negative-word : (n : ℕ) → n ≤ 2 ^ 31 → IsSignedWord ((2 ^ 64 - n) % 2 ^ 
 negative-word zero small = inl (omega arith)
 negative-word (suc n) small = inr (omega arith, omega arith)
 
-source-sound : (text : List ℕ) (o : Operand) → IsImmediateText text o ⊎ IsRegisterText text o → IsSource o × IsFree o
-source-sound text o (inl (inl p)) = subst (λ (x : Operand). IsSource x × IsFree x) (sym p.3) (inl p.1, tt)
-source-sound text o (inl (inr p)) = subst (λ (x : Operand). IsSource x × IsFree x) (sym p.3) (negative-word p.0 p.1, tt)
-source-sound text o (inr r) = let s = register-sound text o r in (s.1, s.2)
+source-plain : (text : List ℕ) (o : Operand) → IsImmediateText text o ⊎ IsRegisterText text o → IsSource o × IsFree o
+source-plain text o (inl (inl p)) = subst (λ (x : Operand). IsSource x × IsFree x) (sym p.3) (inl p.1, tt)
+source-plain text o (inl (inr p)) = subst (λ (x : Operand). IsSource x × IsFree x) (sym p.3) (negative-word p.0 p.1, tt)
+source-plain text o (inr r) = let s = register-plain text o r in (s.1, s.2)
 
 -- instructions
 
@@ -37,8 +37,8 @@ IsPlainInsn i = IsPlainMove i ⊎ IsReturn i
 
 move-plain : (text : List ℕ) (line : ℕ) (i : Insn) → IsMoveText text line i → IsPlainMove i
 move-plain text line i m =
-    let source = source-sound m.source_text m.source m.reads in
-    let target = register-sound m.target_text m.target m.writes in
+    let source = source-plain m.source_text m.source m.reads in
+    let target = register-plain m.target_text m.target m.writes in
     subst IsPlainMove (sym m.means)
     (record {
       source = m.source;
@@ -52,16 +52,6 @@ move-plain text line i m =
 pub insn-plain : (text : List ℕ) (line : ℕ) (i : Insn) → IsInsnText text line i → IsPlainInsn i
 insn-plain text line i (inl m) = inl (move-plain text line i m)
 insn-plain text line i (inr r) = inr (subst IsReturn (sym r.1) (record { op = refl; args = refl; width = refl; legacy = refl }))
-
-has-row : (op : Op) (i : Insn) (source target : Operand) → IsMoveOp op → IsMoveOf i source target → HasRow op i
-has-row Mov i source target moves m = (source, target, m)
-has-row Add i source target moves m = (source, target, m)
-has-row Sub i source target moves m = (source, target, m)
-has-row _ i source target moves m = absurd moves
-
-insn-sound : (i : Insn) → IsPlainInsn i → IsSound i
-insn-sound i (inl m) = has-row i.op i m.source m.target m.op m.move
-insn-sound i (inr r) = subst (λ (op : Op). HasRow op i) (sym r.op) r
 
 -- whole functions
 
@@ -99,10 +89,4 @@ module _ (text name : List ℕ) (f : Function) (plain : IsPlainText text name f)
   plain-insns = plain-by f.insns plain.some each-plain plain.ends
 
   pub closed-insns : length text < 2 ^ 32 → IsClosed f.insns
-  closed-insns short =
-      record {
-        some = plain.some;
-        few = omega (arith, plain-few text name f plain);
-        each = λ k i there. insn-sound i (each-plain k i there);
-        ends = λ i there. (plain.ends (length f.insns - 1) i there).1 (omega (arith, plain.some));
-      }
+  closed-insns short = plain-closed f.insns plain-insns (omega (arith, plain-few text name f plain))
