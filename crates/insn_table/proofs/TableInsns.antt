@@ -19,7 +19,7 @@ use Rattle.insn_table.specs.Table.{shape_of, HasRegisters, IsTableInsn}
 use Rattle.insn_table.proofs.Rows.{rows-named, named-row}
 
 -- A row without a width is that of a move by condition, and none is that of a VEX form.
-abbrev is_move_by_condition : Op → Bool
+abbrev pub is_move_by_condition : Op → Bool
 is_move_by_condition (Cmov condition) = true
 is_move_by_condition _ = false
 
@@ -34,7 +34,7 @@ pub both_true : (a b : Bool) → (a && b) ≡ true → (a ≡ true) × (b ≡ tr
 both_true true b h = (refl, h)
 both_true false b h = cc
 
-either_true : (a b : Bool) → (a || b) ≡ true → (a ≡ true) ⊎ (b ≡ true)
+pub either_true : (a b : Bool) → (a || b) ≡ true → (a ≡ true) ⊎ (b ≡ true)
 either_true true b h = inl refl
 either_true false b h = inr h
 
@@ -46,7 +46,7 @@ some_same : {X : Type 0} (x y : X) → Some x ≡ Some y → x ≡ y
 some_same x y h = cc
 
 -- a test that all pass is passed by each
-passed_at : {X : Type 0} (p : X → Bool) (xs : List X) (k : ℕ) (x : X) → list_all p xs ≡ true → slice_get xs k ≡ Some x → p x ≡ true
+pub passed_at : {X : Type 0} (p : X → Bool) (xs : List X) (k : ℕ) (x : X) → list_all p xs ≡ true → slice_get xs k ≡ Some x → p x ≡ true
 passed_at p [] k x all there = absurd (omega (arith, slice_get_within [] k x there))
 passed_at p (y ∷ ys) zero x all there = subst (λ z. p z ≡ true) (some_same y x there) (both_true _ _ all).0
 passed_at p (y ∷ ys) (suc k) x all there = passed_at p ys k x (both_true _ _ all).1 there
@@ -138,7 +138,7 @@ move_of_64 P = refl
 move_of_64 Np = refl
 
 -- the widths of moves by condition
-wide-cases : (w : ℕ) → has_wide_form w ≡ true → (w ≡ 16) ⊎ ((w ≡ 32) ⊎ (w ≡ 64))
+pub wide-cases : (w : ℕ) → has_wide_form w ≡ true → (w ≡ 16) ⊎ ((w ≡ 32) ⊎ (w ≡ 64))
 wide-cases w h =
     ⊎_elim (λ (e : (w == 16) ≡ true). inl ((Decides-eqb w 16).0 e))
     (λ (e : (w == 32 || w == 64) ≡ true). ⊎_elim (λ (f : (w == 32) ≡ true). inr (inl ((Decides-eqb w 32).0 f))) (λ (f : (w == 64) ≡ true). inr (inr ((Decides-eqb w 64).0 f))) (either_true _ _ e))
@@ -158,14 +158,16 @@ move-row c w h =
     (λ (e : (w ≡ 32) ⊎ (w ≡ 64)). ⊎_elim (λ (f : w ≡ 32). move_at c 32 w (stem c ++ codes "l") f (move_of_32 c)) (λ (f : w ≡ 64). move_at c 64 w (stem c ++ codes "q") f (move_of_64 c)) e)
     (wide-cases w h)
 
-judged-same : (b : Bool) (i j : Insn) → (if b then Ok i else Err BadNumber) ≡ Ok j → i ≡ j
-judged-same true i j h = cc
+judged-same : (b : Bool) (i j : Insn) → (if b then Ok i else Err BadNumber) ≡ Ok j → (i ≡ j) × (b ≡ true)
+judged-same true i j h = (cc, refl)
 judged-same false i j h = cc
 
--- an accepted instruction is the one that is judged, and a form was found for it
-judged-ok : (found : Option Form) (i j : Insn) → judged_by found i ≡ Ok j → (i ≡ j) × ((form : Form) × (found ≡ Some form))
+-- an accepted instruction is the one that is judged, and a form was found for it, which its numbers fit
+pub judged-ok : (found : Option Form) (i j : Insn) → judged_by found i ≡ Ok j
+    → (i ≡ j) × ((form : Form) × (found ≡ Some form) × (numbers_fit i.args form ≡ true))
 judged-ok None i j h = cc
-judged-ok (Some form) i j h = (judged-same (numbers_fit i.args form) i j h, (form, refl))
+judged-ok (Some form) i j h =
+    let same = judged-same (numbers_fit i.args form) i j h in (same.0, (form, refl, same.1))
 
 -- completing the operands twice is completing them once
 lone-counted : (args : List Operand) → is_lone (counted_once args) ≡ false
@@ -222,7 +224,7 @@ found_only_wide : (b : Bool) (p : Form → Bool) (form found : Form) → find p 
 found_only_wide true p form found h = refl
 found_only_wide false p form found h = cc
 
-form-wide : (op : Op) (w : ℕ) (p : Form → Bool) (form : Form) → is_move_by_condition op ≡ true → find p (forms op w) ≡ Some form → has_wide_form w ≡ true
+pub form-wide : (op : Op) (w : ℕ) (p : Form → Bool) (form : Form) → is_move_by_condition op ≡ true → find p (forms op w) ≡ Some form → has_wide_form w ≡ true
 form-wide (Cmov c) w p form move h = found_only_wide (has_wide_form w) p _ form h
 form-wide _ w p form move h = cc
 

@@ -5,6 +5,7 @@ use Rattle.std.proofs.lemmas.Option.{slice_get-get_or}
 use Rattle.align_base.specs.declared.op.Op.{Op}
 use Rattle.align_base.specs.declared.op.Op.TheVariants as ops
 use Rattle.insn_table.specs.declared.insn.Insn.{Insn}
+use Rattle.insn_table.specs.Sound.{IsLeaving}
 use Rattle.machine.specs.declared.operands.Family.{Family}
 use Rattle.machine.specs.declared.operands.Family.TheVariants.{Computing, Address, Choice, Setting, Branch, Jump, Pushing, Popping, Return, Idle}
 use Rattle.machine.specs.declared.state.StepEnd.{StepEnd}
@@ -13,7 +14,7 @@ use Rattle.machine.specs.Family.{family_of, goes, holds_of, insn_step, passes}
 use Rattle.machine.specs.Kept.{Kept}
 use Rattle.machine.specs.Machine.{Machine}
 use Rattle.machine.specs.Run.{Step, Goes, Returns, Faults, MeetsUnset}
-use Rattle.machine.specs.Runnable.{IsLeaving, IsRunnableFunction, JumpsBelow}
+use Rattle.machine.specs.Runnable.{IsRunnableFunction, JumpsBelow}
 use Rattle.machine.specs.Step.{allows_at, conditional, free_at, free_by, jump_place, step_of, tested}
 use Rattle.machine.specs.Operands.{operand}
 use Rattle.machine.specs.Stepping.{StepsAs}

@@ -8,17 +8,22 @@ use Rattle.align_base.specs.declared.op.Op.TheVariants as ops
 use Rattle.insn_table.specs.declared.insn.Insn.{Insn}
 use Rattle.insn_table.specs.declared.insn.Operand.{Operand}
 use Rattle.insn_table.specs.declared.insn.Operand.TheVariants.{Reg, Imm, Mem, Vec, Pool, Target, Nothing}
+use Rattle.insn_table.specs.Forms.{is_addressed}
+use Rattle.insn_table.specs.Sound.{IsClosed}
+use Rattle.insn_table.specs.Table.{IsTableInsn}
 use Rattle.instruction_semantics.specs.Conditions.{cond_of}
 use Rattle.instruction_semantics.specs.Words.{bit}
 use Rattle.machine.specs.Access.{Access, access_at, access_of, accesses_by, allows_by, arity, holds_access, is_allowed, is_nothing, is_on_stack, source_width, stack_pointer, writes}
-use Rattle.machine.specs.Frame.{AreTested, IsTested, IsWritable, SameFrame, SameUnwritable, has_address, is_addressed, is_writable}
+use Rattle.machine.specs.Frame.{IsWritable, SameFrame, SameUnwritable, has_address, is_writable}
 use Rattle.machine.specs.Machine.{Machine, offset_from, stack_base}
 use Rattle.machine.specs.Memory.{with_word}
 use Rattle.machine.specs.Operands.{effective, operand, with_value}
 use Rattle.machine.specs.Run.{Step, Goes, Returns, Faults, MeetsUnset, run_of}
+use Rattle.machine.specs.Runnable.{IsRegister}
 use Rattle.machine.specs.Step.{after_row, allows_at, conditional, free_at, free_by, register_number, result_of, step_of, target_of, tested}
 use Rattle.machine.specs.declared.state.Region.{Region}
 use Rattle.machine.proofs.Runs.{run_keeps}
+use Rattle.machine.proofs.Sound.{lea_register}
 
 -- what holds of the next state, where there is one
 abbrev LeadsTo : {S : Type 0} → (S → Type 0) → Step S → Type 0
@@ -142,6 +147,17 @@ write-kept w s (Pool n) word h = λ x. inl refl
 write-kept w s (Target n) word h = λ x. inl refl
 write-kept w s Nothing word h = λ x. inl refl
 
+-- What an instruction writes is tested: `lea` makes no access, so its target is no memory.
+abbrev IsTested : Insn → Type 0
+IsTested i = i.op ≡ ops.Lea → is_addressed (target_of ops.Lea i) ≡ false
+
+register-not_addressed : (o : Operand) → IsRegister o → is_addressed o ≡ false
+register-not_addressed (Reg n w) is = refl
+register-not_addressed _ is = absurd is
+
+table-tested : (i : Insn) → IsTableInsn i → IsTested i
+table-tested i t e = register-not_addressed (target_of ops.Lea i) (lea_register i t e)
+
 no-access : (s : Machine) (w : ℕ) (o : Operand) → is_addressed o ≡ false → list_all (is_allowed s) (access_of s o w true) ≡ true
 no-access s w (Mem base index scale disp) h = absurd (cc)
 no-access s w (Reg n width) h = refl
@@ -240,9 +256,9 @@ at-kept pool (Some i) s each =
     tested-leads (SameUnwritable s) (allows_at (Some i) s) (free_by pool i.op i s) (λ holds. free-kept pool i.op i s (each i refl) holds)
 
 -- A step writes no byte but in a region that may be written and among the declared stack bytes.
-pub step_memory : (insns : List Insn) (pool : List ℕ) (s t : Machine) → AreTested insns → step_of insns pool s ≡ Goes t → SameUnwritable s t
-step_memory insns pool s t each h =
-    subst (LeadsTo (SameUnwritable s)) h (at-kept pool (slice_get insns s.place) s (λ i e. each s.place i e))
+pub step_memory : (insns : List Insn) (pool : List ℕ) (s t : Machine) → IsClosed insns → step_of insns pool s ≡ Goes t → SameUnwritable s t
+step_memory insns pool s t closed h =
+    subst (LeadsTo (SameUnwritable s)) h (at-kept pool (slice_get insns s.place) s (λ i e. table-tested i (closed.each s.place i e)))
 
 -- runs
 
@@ -276,11 +292,11 @@ run_frame insns pool s n =
     n
 
 -- and each byte that may not be written.
-pub run_memory : (insns : List Insn) (pool : List ℕ) → AreTested insns → (s : Machine) (n : ℕ) → SameUnwritable s (run_of (step_of insns pool) s n).0
-run_memory insns pool each s n =
+pub run_memory : (insns : List Insn) (pool : List ℕ) → IsClosed insns → (s : Machine) (n : ℕ) → SameUnwritable s (run_of (step_of insns pool) s n).0
+run_memory insns pool closed s n =
     (run_keeps (step_of insns pool) (λ t u. SameFrame t u × SameUnwritable t u)
     (λ t. (record { entry = refl; regions = refl; stack = refl; vecs = refl }, λ x. inl refl))
     (λ t u v f g. (frame-joined t u v f.0 g.0, memory-joined t u v f.0 f.1 g.1))
-    (λ t u h. (step_frame insns pool t u h, step_memory insns pool t u each h))
+    (λ t u h. (step_frame insns pool t u h, step_memory insns pool t u closed h))
     s
     n).1

@@ -1,7 +1,6 @@
 mod Cases
 pub mod Allowed
 pub mod Bytewise
-pub mod Closing
 pub mod Families
 pub mod Frames
 pub mod Keeping
@@ -15,6 +14,6 @@ pub mod Returning
 pub mod RowValues
 pub mod RunEnds
 pub mod Runs
+pub mod Sound
 pub mod Targets
-pub mod TestFunctions
 pub mod Words

@@ -1,14 +1,9 @@
 -- What a step leaves as it was: the entry registers, the regions, the stack range and the vectors always, and each byte
 -- of the memory that may not be written.
-use Rattle.std.specs.Prelude.{◌≡◌, ◌⊎◌, ℕ, Bool, true, false, ◌&&◌, ◌||◌, List, nat_lt, slice_get, Some}
+use Rattle.std.specs.Prelude.{◌≡◌, ◌⊎◌, ℕ, Bool, true, ◌&&◌, ◌||◌, nat_lt}
 use Rattle.std.specs.List.{list_any}
-use Rattle.align_base.specs.declared.op.Op.TheVariants.{Lea}
-use Rattle.insn_table.specs.declared.insn.Insn.{Insn}
-use Rattle.insn_table.specs.declared.insn.Operand.{Operand}
-use Rattle.insn_table.specs.declared.insn.Operand.TheVariants.{Mem}
 use Rattle.machine.specs.declared.state.Region.{Region}
 use Rattle.machine.specs.Machine.{Machine, offset_from, stack_base}
-use Rattle.machine.specs.Step.{target_of}
 
 -- no instruction of the table writes a vector yet
 pub record SameFrame (s t : Machine) : Type 0 where
@@ -31,15 +26,3 @@ IsWritable s at = is_writable s at ≡ true
 -- each byte of the memory is as it was, or may be written
 abbrev pub SameUnwritable : Machine → Machine → Type 0
 SameUnwritable s t = (at : ℕ) → (t.memory at ≡ s.memory at) ⊎ IsWritable s at
-
--- memory at an address that registers make
-abbrev pub is_addressed : Operand → Bool
-is_addressed (Mem base index scale disp) = true
-is_addressed _ = false
-
--- What the instruction writes is tested. `lea` makes no access, so its target is no memory.
-abbrev pub IsTested : Insn → Type 0
-IsTested i = i.op ≡ Lea → is_addressed (target_of Lea i) ≡ false
-
-abbrev pub AreTested : List Insn → Type 0
-AreTested insns = (k : ℕ) (i : Insn) → slice_get insns k ≡ Some i → IsTested i

@@ -5,6 +5,7 @@ use Rattle.align_base.specs.declared.op.Op.TheVariants as ops
 use Rattle.insn_table.specs.declared.insn.Insn.{Insn}
 use Rattle.insn_table.specs.declared.insn.Operand.{Operand}
 use Rattle.insn_table.specs.declared.insn.Operand.TheVariants.{Reg, Imm, Mem, Vec, Pool, Target, Nothing}
+use Rattle.insn_table.specs.Sound.{IsLeaving}
 use Rattle.machine.specs.Operands.{operand}
 use Rattle.machine.specs.Step.{jump_place, target_of}
 
@@ -61,12 +62,6 @@ pub record IsRunnable (n : ℕ) (i : Insn) : Type 0 where
   pub numbers : (k : ℕ) → HasNumbers (operand i k)
   pub row : HasRowOf i.op i
   pub jump : JumpsBelow n i.op i
-
--- a return or a jump: what a function may end in
-abbrev pub IsLeaving : Op → Type 0
-IsLeaving ops.Ret = Unit {0}
-IsLeaving ops.Jmp = Unit {0}
-IsLeaving _ = ⊥
 
 -- A function that can be run: it has an instruction and fewer than 2^32, each can be run, and the last one leaves.
 pub record IsRunnableFunction (insns : List Insn) : Type 0 where

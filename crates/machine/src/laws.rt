@@ -1,9 +1,9 @@
-ghost use Rattle.std.specs.Prelude.{◌≡◌, ℕ, ◌+◌, ◌*◌, ◌^◌, ◌<◌, List, Option, length, max};
+ghost use Rattle.std.specs.Prelude.{◌≡◌, ℕ, ◌+◌, ◌*◌, List, Option, length, max};
 ghost use Rattle.insn_table.specs.declared.insn.Insn.{Insn};
 ghost use Rattle.insn_table.specs.Plain.{IsPlain};
 ghost use Rattle.insn_table.specs.Sound.{IsClosed};
 ghost use Rattle.machine.specs.Equivalent.{AreEquivalent};
-ghost use Rattle.machine.specs.Frame.{AreTested, SameFrame, SameUnwritable};
+ghost use Rattle.machine.specs.Frame.{SameFrame, SameUnwritable};
 ghost use Rattle.machine.specs.Machine.{IsPlainStart, Machine, SameRax};
 ghost use Rattle.machine.specs.Path.{Arrived, Back, FallsWithin, Fell, Through, allowed_along, by_test, way};
 ghost use Rattle.machine.specs.Run.{Goes, IsOver, later, run_of};
@@ -14,12 +14,11 @@ ghost use Rattle.machine.specs.Straight.{LeaveTheSame, OnlyReturns};
 
 use insn_table::Function;
 
-/// The law that a plain function can be run, and that with any pool of constants it returns at its
-/// last instruction from each start state, and ends in no other way. It does nothing.
+/// The law that a plain function, with any pool of constants, returns at its last instruction from
+/// each start state, and ends in no other way. It does nothing.
 pub fn plain_functions_return(f: &Function)
     requires { IsPlain f.now.insns }
-    ensures closed { length f.now.insns < 2 ^ 32 → IsClosed f.now.insns }
-    ensures returns { (pool : List ℕ) (s : Machine) → IsPlainStart s → OnlyReturns f.now.insns pool s }
+    ensures { (pool : List ℕ) (s : Machine) → IsPlainStart s → OnlyReturns f.now.insns pool s }
 {}
 
 /// The law that two plain functions, with any pools of constants, are equivalent where their moves
@@ -63,13 +62,13 @@ pub fn way_law()
 {}
 
 /// The law of what a step and a run leave as it was: the entry registers, the regions, the stack
-/// range and the vectors; and, where each `lea` writes to a register, each byte of the memory that
-/// neither lies in a region that may be written nor among the declared stack bytes. It does nothing.
+/// range and the vectors; and, in a closed function, each byte of the memory that neither lies in a
+/// region that may be written nor among the declared stack bytes. It does nothing.
 pub fn step_frame_law()
     ensures step { (insns : List Insn) (pool : List ℕ) (s t : Machine) → step_of insns pool s ≡ Goes t → SameFrame s t }
-    ensures step_memory { (insns : List Insn) (pool : List ℕ) (s t : Machine) → AreTested insns → step_of insns pool s ≡ Goes t
+    ensures step_memory { (insns : List Insn) (pool : List ℕ) (s t : Machine) → IsClosed insns → step_of insns pool s ≡ Goes t
         → SameUnwritable s t }
     ensures run { (insns : List Insn) (pool : List ℕ) (s : Machine) (n : ℕ) → SameFrame s (run_of (step_of insns pool) s n).0 }
-    ensures run_memory { (insns : List Insn) (pool : List ℕ) (s : Machine) (n : ℕ) → AreTested insns
+    ensures run_memory { (insns : List Insn) (pool : List ℕ) (s : Machine) (n : ℕ) → IsClosed insns
         → SameUnwritable s (run_of (step_of insns pool) s n).0 }
 {}

@@ -9,7 +9,8 @@ ghost use Rattle.machine.specs.Run.{run_of};
 ghost use Rattle.machine.specs.Step as steps;
 ghost use Rattle.machine.specs.Stepping.{StepsAs};
 ghost use Rattle.instruction_semantics.specs.Words.{bit};
-ghost use Rattle.machine.specs.Runnable.{HasNumbers, HasRowOf, IsNumber, IsRunnable, IsRunnableFunction, IsWidth};
+ghost use Rattle.machine.specs.Runnable.{HasNumbers, HasRowOf, IsNumber, IsRunnable, IsWidth};
+ghost use Rattle.insn_table.specs.Sound.{IsClosed};
 ghost use Rattle.machine.specs.Kept.{byte_of, IsKept, pure_of};
 ghost use Rattle.machine.specs.Start.{IsCopy, kept_start};
 
@@ -501,7 +502,7 @@ impl State {
 
     /// Runs one instruction of the function.
     pub fn step(&mut self, f: &Function) -> StepEnd
-        requires function { IsRunnableFunction f.now.insns }
+        requires closed { IsClosed f.now.insns }
         requires inside { self.old.place < length f.now.insns }
         ensures steps { StepsAs (steps.step_of f.now.insns f.now.pool (pure_of self.old)) (pure_of self.old) result (pure_of self.new) }
         ensures inside { self.new.place < length f.now.insns }
@@ -512,7 +513,7 @@ impl State {
 
     /// Runs the function for at most `n` steps.
     pub fn run(&mut self, f: &Function, n: u64) -> RunEnd
-        requires function { IsRunnableFunction f.now.insns }
+        requires closed { IsClosed f.now.insns }
         requires inside { self.old.place < length f.now.insns }
         ensures runs { run_of (steps.step_of f.now.insns f.now.pool) (pure_of self.old) n ≡ (pure_of self.new, result) }
         ensures inside { self.new.place < length f.now.insns }

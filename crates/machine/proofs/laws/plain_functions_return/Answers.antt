@@ -1,9 +1,5 @@
-use Rattle.machine.proofs.Closing.{plain_closed}
 use Rattle.machine.proofs.PlainLaws.{plain-only_returns}
 use Rattle.machine.proofs.laws.plain_functions_return.Goals as goal
 
 pub returns : goal.returns
-returns c = record {
-  closed = plain_closed c.args.f.now.insns c.requires;
-  returns = λ pool. plain-only_returns c.args.f.now.insns pool c.requires;
-}
+returns c pool = plain-only_returns c.args.f.now.insns pool c.requires

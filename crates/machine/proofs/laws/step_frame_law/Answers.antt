@@ -6,5 +6,5 @@ returns c = record {
   step = step_frame;
   step_memory = step_memory;
   run = run_frame;
-  run_memory = λ insns pool s n each. run_memory insns pool each s n;
+  run_memory = λ insns pool s n closed. run_memory insns pool closed s n;
 }
