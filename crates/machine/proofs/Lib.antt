@@ -2,6 +2,7 @@ mod Cases
 pub mod Allowed
 pub mod Bytewise
 pub mod Closing
+pub mod Differences
 pub mod Families
 pub mod Frames
 pub mod Keeping
