@@ -1,6 +1,7 @@
 mod Cases
 pub mod Allowed
 pub mod Bytewise
+pub mod Differences
 pub mod Families
 pub mod Frames
 pub mod Keeping

@@ -1,4 +1,6 @@
 pub mod Access
+pub mod Difference
+pub mod Differing
 pub mod Equivalent
 pub mod Family
 pub mod Frame

@@ -1,6 +1,7 @@
 //! The machine that runs functions, one step at a time, and laws of runs and steps.
 #![tactic(auto)]
 
+mod difference;
 mod laws;
 mod operands;
 mod spans;
@@ -8,6 +9,7 @@ mod state;
 #[cfg(test)]
 mod tests;
 
+pub use difference::{Difference, difference_law};
 pub use laws::{
     path_law, plain_functions_agree, plain_functions_return, run_law, step_frame_law, way_law,
 };

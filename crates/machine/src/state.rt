@@ -11,7 +11,7 @@ ghost use Rattle.machine.specs.Stepping.{StepsAs};
 ghost use Rattle.instruction_semantics.specs.Words.{bit};
 ghost use Rattle.machine.specs.Runnable.{HasNumbers, HasRowOf, IsNumber, IsRunnable, IsWidth};
 ghost use Rattle.insn_table.specs.Sound.{IsClosed};
-ghost use Rattle.machine.specs.Kept.{byte_of, IsKept, pure_of};
+ghost use Rattle.machine.specs.Kept.{AreOrdered, byte_of, IsKept, pure_of};
 ghost use Rattle.machine.specs.Start.{IsCopy, kept_start};
 
 use crate::operands::{
@@ -174,6 +174,22 @@ impl State {
         ensures { result ≡ byte_of self.now.spans at }
     {
         byte_at(&self.spans, at)
+    }
+
+    // The spans, in order and apart.
+    pub(crate) fn spans(&self) -> &[Span]
+        ensures spans { result.now ≡ self.now.spans }
+        ensures ordered { AreOrdered 0 result.now }
+    {
+        &self.spans
+    }
+
+    // How many declared stack bytes there are.
+    pub(crate) fn stack(&self) -> u64
+        ensures value { result ≡ self.now.stack }
+        ensures small { result ≤ 4096 }
+    {
+        self.stack
     }
 
     /// The place of the next instruction.
