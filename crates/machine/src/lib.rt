@@ -3,6 +3,7 @@
 
 mod laws;
 mod operands;
+mod ranges;
 mod spans;
 mod state;
 #[cfg(test)]
