@@ -1,5 +1,6 @@
 mod Cases
 pub mod Allowed
+pub mod ByteRanges
 pub mod Bytewise
 pub mod Differences
 pub mod Families

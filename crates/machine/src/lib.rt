@@ -4,6 +4,7 @@
 mod difference;
 mod laws;
 mod operands;
+mod ranges;
 mod spans;
 mod state;
 #[cfg(test)]

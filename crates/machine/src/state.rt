@@ -2,7 +2,7 @@ ghost use Rattle.std.specs.Prelude.{◌≡◌, ℕ, ◌+◌, ◌-◌, ◌*◌, �
 ghost use Rattle.std.specs.List.{list_all};
 ghost use Rattle.machine.specs.Access as access;
 ghost use Rattle.machine.specs.Family.{completed, goes, holds_of, insn_step, IsReady, passes, passes_accesses};
-ghost use Rattle.machine.specs.Machine.{offset_from};
+ghost use Rattle.machine.specs.Machine.{IsStart, offset_from};
 ghost use Rattle.machine.specs.Operands as operands;
 ghost use Rattle.machine.specs.Spanned.{IsSpanned};
 ghost use Rattle.machine.specs.Run.{run_of};
@@ -18,6 +18,7 @@ use crate::operands::{
     Family, arity, condition, destination, displacement_of, jump_place, low_bits, merged,
     op_family, operand, register_number, source, source_width, target, width_at, writes,
 };
+use crate::ranges::{are_regs, are_vecs, spans_hold_bytes};
 use crate::spans::{byte_at, copy_spans, put_word, word_in, word_of};
 use align_base::{Flags, Memory};
 use insn_table::{Function, Insn, Op, Operand};
@@ -110,8 +111,12 @@ impl State {
         stack: u64,
     ) -> State
         requires { IsKept (kept_start regs vecs spans.items regions.items stack) }
-        ensures { result ≡ kept_start regs vecs spans.items regions.items stack }
+        ensures kept { result ≡ kept_start regs vecs spans.items regions.items stack }
+        ensures start { IsStart (pure_of result) }
     {
+        are_regs(&regs);
+        are_vecs(&vecs);
+        spans_hold_bytes(&spans);
         State {
             regs,
             entry: regs,
