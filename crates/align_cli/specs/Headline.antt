@@ -11,8 +11,9 @@ use Rattle.align_base.specs.declared.status.Status.{Status}
 use Rattle.align_base.specs.declared.status.Status.TheVariants as status
 use Rattle.insn_table.specs.declared.insn.Insn.{Insn}
 use Rattle.insn_table.specs.declared.insn.Function.{Function}
+use Rattle.machine.specs.Difference.{SamePlainEnd}
 use Rattle.machine.specs.Equivalent.{AreEquivalent}
-use Rattle.machine.specs.Machine.{Machine, IsPlainStart, SameRax, rax}
+use Rattle.machine.specs.Machine.{Machine, IsPlainStart, rax}
 use Rattle.machine.specs.Run.{Step, end_of, run_of}
 use Rattle.machine.specs.Step.{step_of}
 use Rattle.machine.specs.declared.state.RunEnd.TheVariants.{Returned, Faulted}
@@ -50,7 +51,7 @@ NeverFaults insns = (s : Machine) → IsPlainStart s → (n i : ℕ) → end_of 
 pub record ReportsEquivalent (left right : List Insn) (report : List ℕ) : Type 0 where
   pub bound : ℕ
   pub bound_is : bound ≡ 2 * max (length left) (length right)
-  pub equivalent : AreEquivalent IsPlainStart SameRax bound (plain_step left) (plain_step right)
+  pub equivalent : AreEquivalent IsPlainStart SamePlainEnd bound (plain_step left) (plain_step right)
   pub left_never_faults : NeverFaults left
   pub right_never_faults : NeverFaults right
   pub report_is : report ≡ equivalent_report bound

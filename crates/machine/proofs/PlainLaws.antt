@@ -1,10 +1,13 @@
 -- Laws of plain functions: how they end, and when two are equivalent.
-use Rattle.std.proofs.Common.{◌≡◌, ◌≢◌, ℕ, ◌-◌, ◌*◌, max, List, [], ◌∷◌, ◌++◌, length, take, slice_index, sym, ◌∙◌, ap, subst, length-append, arith}
+use Rattle.std.proofs.Common.{◌≡◌, ◌≢◌, ℕ, zero, suc, ◌-◌, ◌*◌, ◌%◌, ◌^◌, max, List, [], ◌∷◌, ◌++◌, length, take, slice_get, slice_index, Some, sym, ◌∙◌, ap, subst, length-append, arith}
 use Rattle.std.proofs.Math.Seq.{take-append_seam}
+use Rattle.align_base.specs.declared.output.Output.{Output}
+use Rattle.align_base.specs.declared.output.Output.TheVariants.{Reg}
 use Rattle.insn_table.specs.declared.insn.Insn.{Insn}
 use Rattle.insn_table.specs.Plain.{IsPlain}
+use Rattle.machine.specs.Difference.{Agree, SamePlainEnd}
 use Rattle.machine.specs.Equivalent.{AreEquivalent}
-use Rattle.machine.specs.Machine.{AreRegs, Machine, IsPlainStart, SameRax}
+use Rattle.machine.specs.Machine.{AreRegs, Machine, IsPlainStart, rax}
 use Rattle.machine.specs.Run.{run_of, end_of}
 use Rattle.machine.specs.Step.{step_of}
 use Rattle.machine.specs.Straight.{regs_through, OnlyReturns}
@@ -40,20 +43,33 @@ pub plain-returns_only : (insns : List Insn) (pool : List ℕ) (p : IsPlain insn
 plain-returns_only insns pool p s start n i h =
     returned_only (step_of insns pool) s (plain_end pool p s) (length insns) (length insns) (plain_ends insns pool p s start) n i h
 
+one_output : (s t : Machine) (o output : Output) (j : ℕ) → Agree s t o → slice_get (o ∷ []) j ≡ Some output → Agree s t output
+one_output s t o output zero agree h = let same : o ≡ output = cc in subst (Agree s t) same agree
+one_output s t o output (suc j) agree h = absurd (cc)
+
+-- the same %rax and the same memory are the same end
+same_plain_end : (s t : Machine) → rax s ≡ rax t → s.memory ≡ t.memory → SamePlainEnd s t
+same_plain_end s t same memory = record {
+  outputs = λ j output before live. one_output s t (Reg 0 64) output j (ap (λ (x : ℕ). x % 2 ^ 64) same) live;
+  memory = λ at compared. ap (λ (m : ℕ → ℕ). m at) memory;
+}
+
 pub plain-equivalent : (f g : List Insn) (pool_f pool_g : List ℕ) (p : IsPlain f) (q : IsPlain g)
     → ((s : Machine) → IsPlainStart s → slice_index (regs_through p.moves s.regs) 0 ≡ slice_index (regs_through q.moves s.regs) 0)
-    → AreEquivalent IsPlainStart SameRax (2 * max (length f) (length g)) (step_of f pool_f) (step_of g pool_g)
+    → AreEquivalent IsPlainStart SamePlainEnd (2 * max (length f) (length g)) (step_of f pool_f) (step_of g pool_g)
 plain-equivalent f g pool_f pool_g p q same =
-    returning_equivalent IsPlainStart SameRax (step_of f pool_f) (step_of g pool_g) (plain_end pool_f p) (plain_end pool_g q)
+    returning_equivalent IsPlainStart SamePlainEnd (step_of f pool_f) (step_of g pool_g) (plain_end pool_f p) (plain_end pool_g q)
     (length f) (length g) (2 * max (length f) (length g))
     (plain_ends f pool_f p)
     (plain_ends g pool_g q)
     (omega arith)
     (omega arith)
     (λ s start.
-    ap (λ (regs : List ℕ). slice_index regs 0) (plain_end-regs pool_f p s)
+    same_plain_end (plain_end pool_f p s) (plain_end pool_g q s)
+    (ap (λ (regs : List ℕ). slice_index regs 0) (plain_end-regs pool_f p s)
     ∙ same s start
     ∙ ap (λ (regs : List ℕ). slice_index regs 0) (sym (plain_end-regs pool_g q s)))
+    (through-memory pool_f p.moves s ∙ sym (through-memory pool_g q.moves s)))
 
 -- the moves are all instructions but the last
 pub plain_moves : (insns : List Insn) (p : IsPlain insns) → p.moves ≡ take (length insns - 1) insns

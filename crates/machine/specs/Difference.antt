@@ -3,7 +3,7 @@
 --
 -- The scratch lines and the stack range are this project's own. The stack range is that of the first state, and both have
 -- the same one where both returned from one start state.
-use Rattle.std.specs.Prelude.{◌≡◌, ◌⊎◌, ℕ, ◌+◌, ◌/◌, ◌%◌, ◌^◌, ◌<◌, Bool, true, List, [], get_or, length, slice_get, slice_index, Some, take, nat_lt}
+use Rattle.std.specs.Prelude.{◌≡◌, ◌⊎◌, ℕ, ◌/◌, ◌%◌, ◌^◌, ◌<◌, Bool, true, List, [], ◌∷◌, get_or, length, slice_get, slice_index, Some, take, nat_lt}
 use Rattle.std.specs.List.{list_any}
 use Rattle.align_base.specs.declared.output.Output.{Output}
 use Rattle.align_base.specs.declared.output.Output.TheVariants.{Reg, Vec}
@@ -67,3 +67,7 @@ pub record IsFirstByte (scratch : List (ℕ × ℕ)) (s t : Machine) (at : ℕ) 
 abbrev pub IsFirstDifference : List Output → List (ℕ × ℕ) → Machine → Machine → Difference → Type 0
 IsFirstDifference live scratch s t (Out k) = IsFirstOutput live s t k
 IsFirstDifference live scratch s t (Byte at) = AgreeBefore live s t (length live) × IsFirstByte scratch s t at
+
+-- two states have the same end in the short form, whose one live output is %rax, and which has no scratch line
+abbrev pub SamePlainEnd : Machine → Machine → Type 0
+SamePlainEnd s t = SameEnd (Reg 0 64 ∷ []) [] s t

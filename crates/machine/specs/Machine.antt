@@ -74,7 +74,3 @@ pub record IsPlainStart (s : Machine) : Type 0 where
 -- what %rax holds, register 0
 abbrev pub rax : Machine → ℕ
 rax s = slice_index s.regs 0
-
--- two states have the same end by the short form's one live output, %rax
-abbrev pub SameRax : Machine → Machine → Type 0
-SameRax a b = rax a ≡ rax b

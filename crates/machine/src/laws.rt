@@ -2,9 +2,10 @@ ghost use Rattle.std.specs.Prelude.{◌≡◌, ℕ, ◌+◌, ◌*◌, List, Opti
 ghost use Rattle.insn_table.specs.declared.insn.Insn.{Insn};
 ghost use Rattle.insn_table.specs.Plain.{IsPlain};
 ghost use Rattle.insn_table.specs.Sound.{IsClosed};
+ghost use Rattle.machine.specs.Difference.{SamePlainEnd};
 ghost use Rattle.machine.specs.Equivalent.{AreEquivalent};
 ghost use Rattle.machine.specs.Frame.{SameFrame, SameUnwritable};
-ghost use Rattle.machine.specs.Machine.{IsPlainStart, Machine, SameRax};
+ghost use Rattle.machine.specs.Machine.{IsPlainStart, Machine};
 ghost use Rattle.machine.specs.Path.{Arrived, Back, FallsWithin, Fell, Through, allowed_along, by_test, way};
 ghost use Rattle.machine.specs.Run.{Goes, IsOver, later, run_of};
 ghost use Rattle.machine.specs.declared.state.RunEnd.{RunEnd};
@@ -25,7 +26,7 @@ pub fn plain_functions_return(f: &Function)
 /// leave the same in %rax. It does nothing.
 pub fn plain_functions_agree(f: &Function, g: &Function)
     requires { LeaveTheSame f.now.insns g.now.insns }
-    ensures { (pool_f pool_g : List ℕ) → AreEquivalent IsPlainStart SameRax (2 * max (length f.now.insns) (length g.now.insns))
+    ensures { (pool_f pool_g : List ℕ) → AreEquivalent IsPlainStart SamePlainEnd (2 * max (length f.now.insns) (length g.now.insns))
         (step_of f.now.insns pool_f) (step_of g.now.insns pool_g) }
 {}
 
