@@ -1,5 +1,5 @@
 -- Differences of states: equal vectors, the first differing byte of spans, and that there is one first difference at most.
-use Rattle.std.proofs.Common.{◌≡◌, ◌⊎◌, inl, inr, ℕ, zero, suc, ◌+◌, ◌-◌, ◌/◌, ◌%◌, ◌^◌, ◌<◌, ◌≤◌, Bool, true, false, eqb, Decides, MatchBool, List, [], ◌∷◌, Option, None, IfNone, IfSome, min, drop, length, take, slice_get, slice_index, if◌then◌else◌, Some, refl, sym, ◌∙◌, ap, subst, arith}
+use Rattle.std.proofs.Common.{◌≡◌, ◌⊎◌, inl, inr, ℕ, zero, suc, ◌+◌, ◌/◌, ◌%◌, ◌^◌, ◌<◌, ◌≤◌, Bool, true, false, eqb, Decides, MatchBool, List, [], ◌∷◌, Option, None, IfNone, IfSome, min, drop, length, take, slice_get, if◌then◌else◌, Some, refl, sym, ◌∙◌, ap, subst, arith}
 use Rattle.std.proofs.Math.Nat.{mod-eq_of_lt}
 use Rattle.std.specs.Cmp.Lexicographic.{pointwise}
 use Rattle.std.proofs.lemmas.Bool.{cases_Bool, cases_lt, false≢true}
@@ -12,7 +12,7 @@ use Rattle.align_base.specs.declared.output.Output.TheVariants.{Vec}
 use Rattle.machine.specs.declared.difference.Difference.{Difference}
 use Rattle.machine.specs.declared.difference.Difference.TheVariants.{Out, Byte}
 use Rattle.machine.specs.declared.state.Span.{Span}
-use Rattle.machine.specs.Difference.{Agree, IsCompared, IsFirstByte, IsFirstDifference, IsFirstOutput, OtherByte, SameByte, SameEnd}
+use Rattle.machine.specs.Difference.{Agree, IsFirstByte, IsFirstDifference, IsFirstOutput, OtherByte, SameByte, SameEnd}
 use Rattle.machine.specs.Differing.{AreSame, IsFirstAmong, lesser}
 use Rattle.machine.specs.Kept.{AreOrdered, byte_of, is_spanned, Kept, pure_of, spans_address}
 use Rattle.machine.specs.Machine.{Machine}

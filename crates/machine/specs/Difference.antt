@@ -3,7 +3,7 @@
 --
 -- The scratch lines and the stack range are this project's own. The stack range is that of the first state, and both have
 -- the same one where both returned from one start state.
-use Rattle.std.specs.Prelude.{◌≡◌, ◌⊎◌, ℕ, ◌+◌, ◌/◌, ◌%◌, ◌^◌, ◌<◌, Bool, true, List, [], get_or, length, slice_get, slice_index, Some, take, nat_lt}
+use Rattle.std.specs.Prelude.{◌≡◌, ◌⊎◌, ℕ, ◌/◌, ◌%◌, ◌^◌, ◌<◌, Bool, true, List, [], get_or, length, slice_get, slice_index, Some, take, nat_lt}
 use Rattle.std.specs.List.{list_any}
 use Rattle.align_base.specs.declared.output.Output.{Output}
 use Rattle.align_base.specs.declared.output.Output.TheVariants.{Reg, Vec}

@@ -143,7 +143,9 @@ impl State {
 fn is_in_scratch(scratch: &[(u64, u64)], at: u64) -> bool
     ensures { result ≡ difference.is_in_scratch scratch.now at }
 {
-    scratch.iter().any(|(base, len)| at.wrapping_sub(*base) < *len)
+    scratch
+        .iter()
+        .any(|(base, len)| at.wrapping_sub(*base) < *len)
 }
 
 // The lesser of two numbers, or the only one.
