@@ -2,6 +2,8 @@
 #![tactic(auto)]
 
 mod difference;
+#[cfg(test)]
+mod difference_tests;
 mod laws;
 mod operands;
 mod ranges;
