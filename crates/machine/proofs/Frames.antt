@@ -26,20 +26,20 @@ use Rattle.machine.proofs.Runs.{run_keeps}
 use Rattle.machine.proofs.Sound.{lea_register}
 
 -- what holds of the next state, where there is one
-abbrev LeadsTo : {S : Type 0} → (S → Type 0) → Step S → Type 0
+abbrev pub LeadsTo : {S : Type 0} → (S → Type 0) → Step S → Type 0
 LeadsTo P (Goes t) = P t
 LeadsTo P Returns = Unit {0}
 LeadsTo P Faults = Unit {0}
 LeadsTo P MeetsUnset = Unit {0}
 
-tested-leads : {S : Type 0} (P : S → Type 0) (holds : Bool) (p : Step S) → (holds ≡ true → LeadsTo P p) → LeadsTo P (tested holds p)
+pub tested-leads : {S : Type 0} (P : S → Type 0) (holds : Bool) (p : Step S) → (holds ≡ true → LeadsTo P p) → LeadsTo P (tested holds p)
 tested-leads P true p h = h refl
 tested-leads P false (Goes t) h = tt
 tested-leads P false Returns h = tt
 tested-leads P false Faults h = tt
 tested-leads P false MeetsUnset h = tt
 
-conditional-leads : (P : Machine → Type 0) (o : Option Bool) (goes : Bool → Step Machine) → ((b : Bool) → LeadsTo P (goes b)) → LeadsTo P (conditional o goes)
+pub conditional-leads : (P : Machine → Type 0) (o : Option Bool) (goes : Bool → Step Machine) → ((b : Bool) → LeadsTo P (goes b)) → LeadsTo P (conditional o goes)
 conditional-leads P None goes h = tt
 conditional-leads P (Some b) goes h = h b
 

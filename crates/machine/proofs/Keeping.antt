@@ -32,7 +32,7 @@ computed-below Add old value h k = omega arith
 computed-below Sub old value h k = omega arith
 computed-below _ old value h k = h
 
-set-below : (regs : List ℕ) (r v n : ℕ) → r < length regs → v < 2 ^ 64 → slice_index regs n < 2 ^ 64 → slice_index (slice_set regs r v) n < 2 ^ 64
+pub set-below : (regs : List ℕ) (r v n : ℕ) → r < length regs → v < 2 ^ 64 → slice_index regs n < 2 ^ 64 → slice_index (slice_set regs r v) n < 2 ^ 64
 set-below regs r v n within small h = grind (arith, common_steps)
 
 written-regs : (o : Operand) (regs : List ℕ) (v : ℕ) → IsRegister o → AreRegs regs → v < 2 ^ 64 → AreRegs (written regs o v)

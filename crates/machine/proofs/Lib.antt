@@ -17,5 +17,6 @@ pub mod RowValues
 pub mod RunEnds
 pub mod Runs
 pub mod Sound
+pub mod StateRanges
 pub mod Targets
 pub mod Words

@@ -119,11 +119,11 @@ kept_after pool i s word cond f w =
     let after = flags_stay i.op i.w (destination_value pool i s) (source_value pool i.op i s) s.flags f in
     λ j. completed i s (w j) (sym after j)
 
-address_result : (op : Op) (w a b : ℕ) → family_of op ≡ Address → value (row_leaves a b 0) (row_expr op w b) ≡ b % 2 ^ w
+pub address_result : (op : Op) (w a b : ℕ) → family_of op ≡ Address → value (row_leaves a b 0) (row_expr op w b) ≡ b % 2 ^ w
 address_result ops.Lea w a b f = ap (λ (x : ℕ). x % 2 ^ w) (div-one b)
 address_result _ w a b f = cc
 
-address_source : (pool : List ℕ) (op : Op) (i : Insn) (s : Machine) → family_of op ≡ Address → source_value pool op i s ≡ address_of s.regs (operand i 0)
+pub address_source : (pool : List ℕ) (op : Op) (i : Insn) (s : Machine) → family_of op ≡ Address → source_value pool op i s ≡ address_of s.regs (operand i 0)
 address_source pool ops.Lea i s f = refl
 address_source pool _ i s f = cc
 
@@ -136,12 +136,12 @@ pub address_after : (pool : List ℕ) (i : Insn) (s : Machine) (word : ℕ) → 
 address_after pool i s word f w = kept_after pool i s word 0 (inl f)
     (w ∙ ap (λ (x : ℕ). x % 2 ^ i.w) (sym (address_source pool i.op i s f)) ∙ sym (address_result i.op i.w (destination_value pool i s) (source_value pool i.op i s) f))
 
-choice_result : (op : Op) (w a b : ℕ) (holds : Bool) → family_of op ≡ Choice → value (row_leaves a b (bit holds)) (row_expr op w b) ≡ (if holds then b else a)
+pub choice_result : (op : Op) (w a b : ℕ) (holds : Bool) → family_of op ≡ Choice → value (row_leaves a b (bit holds)) (row_expr op w b) ≡ (if holds then b else a)
 choice_result (ops.Cmov c) w a b true f = refl
 choice_result (ops.Cmov c) w a b false f = refl
 choice_result _ w a b holds f = cc
 
-choice_source : (pool : List ℕ) (op : Op) (i : Insn) (s : Machine) → family_of op ≡ Choice → source_value pool op i s ≡ value_of pool (source_width op i.w) s (source_of op i)
+pub choice_source : (pool : List ℕ) (op : Op) (i : Insn) (s : Machine) → family_of op ≡ Choice → source_value pool op i s ≡ value_of pool (source_width op i.w) s (source_of op i)
 choice_source pool (ops.Cmov c) i s f = refl
 choice_source pool _ i s f = cc
 
@@ -153,7 +153,7 @@ choice_after pool i s a b word holds f da sb w =
     let result : word ≡ result_of pool i s (bit holds) = w ∙ sym (choice_result i.op i.w a b holds f) ∙ (λ j. value (row_leaves (da j) (source j) (bit holds)) (row_expr i.op i.w (source j))) in
     kept_after pool i s word (bit holds) (inr (inl f)) result
 
-setting_result : (op : Op) (w a b : ℕ) (holds : Bool) → family_of op ≡ Setting → value (row_leaves a b (bit holds)) (row_expr op w b) ≡ bit holds
+pub setting_result : (op : Op) (w a b : ℕ) (holds : Bool) → family_of op ≡ Setting → value (row_leaves a b (bit holds)) (row_expr op w b) ≡ bit holds
 setting_result (ops.Set c) w a b true f = refl
 setting_result (ops.Set c) w a b false f = refl
 setting_result _ w a b holds f = cc

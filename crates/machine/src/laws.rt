@@ -1,11 +1,11 @@
-ghost use Rattle.std.specs.Prelude.{◌≡◌, ℕ, ◌+◌, ◌*◌, List, Option, length, max};
+ghost use Rattle.std.specs.Prelude.{◌≡◌, ℕ, ◌+◌, ◌*◌, ◌<◌, List, Option, length, max, slice_index};
 ghost use Rattle.insn_table.specs.declared.insn.Insn.{Insn};
 ghost use Rattle.insn_table.specs.Plain.{IsPlain};
 ghost use Rattle.insn_table.specs.Sound.{IsClosed};
 ghost use Rattle.machine.specs.Difference.{SamePlainEnd};
 ghost use Rattle.machine.specs.Equivalent.{AreEquivalent};
 ghost use Rattle.machine.specs.Frame.{SameFrame, SameUnwritable};
-ghost use Rattle.machine.specs.Machine.{IsPlainStart, Machine};
+ghost use Rattle.machine.specs.Machine.{IsPlainStart, IsState, Machine};
 ghost use Rattle.machine.specs.Path.{Arrived, Back, FallsWithin, Fell, Through, allowed_along, by_test, way};
 ghost use Rattle.machine.specs.Run.{Goes, IsOver, later, run_of};
 ghost use Rattle.machine.specs.declared.state.RunEnd.{RunEnd};
@@ -72,4 +72,13 @@ pub fn step_frame_law()
     ensures run { (insns : List Insn) (pool : List ℕ) (s : Machine) (n : ℕ) → SameFrame s (run_of (step_of insns pool) s n).0 }
     ensures run_memory { (insns : List Insn) (pool : List ℕ) (s : Machine) (n : ℕ) → IsClosed insns
         → SameUnwritable s (run_of (step_of insns pool) s n).0 }
+{}
+
+/// The law that a step and a run keep the values of a state in their ranges, where the function can be
+/// run and its pool has bytes. It does nothing.
+pub fn state_law()
+    ensures step { (insns : List Insn) (pool : List ℕ) (s t : Machine) → IsClosed insns → ((at : ℕ) → slice_index pool at < 256)
+        → IsState s → step_of insns pool s ≡ Goes t → IsState t }
+    ensures run { (insns : List Insn) (pool : List ℕ) (s : Machine) (n : ℕ) → IsClosed insns → ((at : ℕ) → slice_index pool at < 256)
+        → IsState s → IsState (run_of (step_of insns pool) s n).0 }
 {}
