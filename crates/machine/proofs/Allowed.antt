@@ -9,7 +9,8 @@ use Rattle.insn_table.specs.declared.insn.Insn.{Insn}
 use Rattle.insn_table.specs.declared.insn.Operand.{Operand}
 use Rattle.insn_table.specs.declared.insn.Operand.TheVariants.{Reg, Imm, Mem, Vec, Pool, Target, Nothing}
 use Rattle.machine.specs.declared.state.Region.{Region}
-use Rattle.machine.specs.Access.{Access, access_at, access_of, arity, holds_access, is_allowed, is_nothing, is_on_stack, writes}
+use Rattle.insn_table.specs.Forms.{is_nothing}
+use Rattle.machine.specs.Access.{Access, access_at, access_of, arity, holds_access, is_allowed, is_on_stack, writes}
 use Rattle.machine.specs.Family.{passes_accesses}
 use Rattle.machine.specs.Kept.{IsKept, IsRegion, Kept, is_spanned, pure_of}
 use Rattle.machine.specs.Machine.{Machine, offset_from, stack_base}

@@ -8,12 +8,12 @@ use Rattle.align_base.specs.declared.op.Op.TheVariants as ops
 use Rattle.insn_table.specs.declared.insn.Insn.{Insn}
 use Rattle.insn_table.specs.declared.insn.Operand.{Operand}
 use Rattle.insn_table.specs.declared.insn.Operand.TheVariants.{Reg, Imm, Mem, Vec, Pool, Target, Nothing}
-use Rattle.insn_table.specs.Forms.{is_addressed}
+use Rattle.insn_table.specs.Forms.{is_addressed, is_nothing}
 use Rattle.insn_table.specs.Sound.{IsClosed}
 use Rattle.insn_table.specs.Table.{IsTableInsn}
 use Rattle.instruction_semantics.specs.Conditions.{cond_of}
 use Rattle.instruction_semantics.specs.Words.{bit}
-use Rattle.machine.specs.Access.{Access, access_at, access_of, accesses_by, allows_by, arity, holds_access, is_allowed, is_nothing, is_on_stack, source_width, stack_pointer, writes}
+use Rattle.machine.specs.Access.{Access, access_at, access_of, accesses_by, allows_by, arity, holds_access, is_allowed, is_on_stack, source_width, stack_pointer, writes}
 use Rattle.machine.specs.Frame.{IsWritable, SameFrame, SameUnwritable, has_address, is_writable}
 use Rattle.machine.specs.Machine.{Machine, offset_from, stack_base}
 use Rattle.machine.specs.Memory.{with_word}

@@ -6,7 +6,8 @@ use Rattle.align_base.specs.declared.op.Op.{Op}
 use Rattle.align_base.specs.declared.op.Op.TheVariants as ops
 use Rattle.insn_table.specs.declared.insn.Insn.{Insn}
 use Rattle.insn_table.specs.declared.insn.Operand.{Operand}
-use Rattle.insn_table.specs.declared.insn.Operand.TheVariants.{Mem, Nothing}
+use Rattle.insn_table.specs.declared.insn.Operand.TheVariants.{Mem}
+use Rattle.insn_table.specs.Forms.{is_nothing}
 use Rattle.machine.specs.declared.state.Region.{Region}
 use Rattle.machine.specs.Machine.{Machine, offset_from, stack_base}
 use Rattle.machine.specs.Operands.{effective, operand}
@@ -18,10 +19,6 @@ pub record Access : Type 0 where
   pub write : Bool
 
 -- how many operands an instruction has
-abbrev pub is_nothing : Operand → Bool
-is_nothing Nothing = true
-is_nothing _ = false
-
 abbrev pub arity : Insn → ℕ
 arity i = if is_nothing (operand i 0) then 0 else (if is_nothing (operand i 1) then 1 else (if is_nothing (operand i 2) then 2 else 3))
 

@@ -74,8 +74,8 @@ pub fn step_frame_law()
         → SameUnwritable s (run_of (step_of insns pool) s n).0 }
 {}
 
-/// The law that a step and a run keep the values of a state in their ranges, where the function can be
-/// run and its pool has bytes. It does nothing.
+/// The law that a step and a run of a closed function, whose pool holds bytes, keep the values of a
+/// state in their ranges. It does nothing.
 pub fn state_law()
     ensures step { (insns : List Insn) (pool : List ℕ) (s t : Machine) → IsClosed insns → ((at : ℕ) → slice_index pool at < 256)
         → IsState s → step_of insns pool s ≡ Goes t → IsState t }

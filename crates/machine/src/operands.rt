@@ -1,4 +1,5 @@
 ghost use Rattle.std.specs.Prelude.{◌≡◌, ◌+◌, ◌%◌, ◌*◌, ◌^◌, ◌<◌};
+ghost use Rattle.insn_table.specs.Forms.{is_nothing};
 ghost use Rattle.machine.specs.Access as access;
 ghost use Rattle.machine.specs.Family.{condition_of, family_of};
 ghost use Rattle.machine.specs.Operands.{displacement};
@@ -72,7 +73,7 @@ pub fn operand(insn: &Insn, k: usize) -> Operand
 }
 
 fn is_nothing(operand: Operand) -> bool
-    ensures { result ≡ access.is_nothing operand }
+    ensures { result ≡ is_nothing operand }
 {
     match operand {
         Operand::Nothing => true,
