@@ -7,7 +7,7 @@ use Rattle.insn_table.specs.declared.insn.Operand.{Operand}
 use Rattle.insn_table.specs.declared.insn.Insn.{Insn}
 use Rattle.insn_table.specs.declared.insn.Function.{Function}
 use Rattle.insn_table.specs.Plain.{IsSignedWord, IsSource, IsRegister, IsReturn, IsFree, IsPlainMove, IsPlain}
-use Rattle.insn_table.specs.Sound.{IsClosed}
+use Rattle.insn_table.specs.Closed.{IsClosed}
 use Rattle.insn_table.proofs.Closing.{plain-closed}
 use Rattle.att_reader.specs.PlainText.{register_names, IsRegisterText, IsImmediateText, IsMoveText, IsInsnText, IsPlainText, line_number}
 use Rattle.att_reader.proofs.Statements.{moves-not}

@@ -12,7 +12,7 @@ use Rattle.align_base.proofs.FirstFaults.{IsOutcome}
 use Rattle.insn_table.specs.declared.insn.Insn.{Insn}
 use Rattle.insn_table.specs.declared.insn.Function.{Function}
 use Rattle.insn_table.specs.Plain.{IsPlain}
-use Rattle.insn_table.specs.Sound.{IsClosed}
+use Rattle.insn_table.specs.Closed.{IsClosed}
 use Rattle.att_reader.specs.declared.refusal.ReadKind.{ReadKind}
 use Rattle.att_reader.specs.declared.refusal.ReadKind.TheVariants.{Memory, NoFunction, UnknownInstruction, FallsOff}
 use Rattle.att_reader.specs.declared.refusal.ReadRefusal.{ReadRefusal}

@@ -3,7 +3,7 @@ ghost use Rattle.std.specs.Prelude.{◌≡◌, ◌^◌, ◌<◌, ◌++◌, List,
 ghost use Rattle.std.specs.List.{list_all};
 ghost use Rattle.std.specs.Option.{option_map};
 ghost use Rattle.std.specs.Str.Lines.{lines};
-ghost use Rattle.insn_table.specs.Sound.{IsClosed};
+ghost use Rattle.insn_table.specs.Closed.{IsClosed};
 ghost use Rattle.insn_table.specs.Plain.{IsPlain};
 ghost use Rattle.insn_table.specs.declared.insn.Function.{Function};
 ghost use Rattle.att_reader.specs.declared.refusal.ReadRefusal.{ReadRefusal};

@@ -12,7 +12,7 @@ use Rattle.insn_table.specs.declared.insn.Insn.{Insn}
 use Rattle.insn_table.specs.Spellings.{general, named, general_rows, add_to_cltq, cmova_to_cmovnc, cmovne_to_cmovz, cmp_to_lea, mov_to_sar, set_rows, shl_to_xor}
 use Rattle.insn_table.specs.Forms.{is_immediate, fits_of}
 use Rattle.insn_table.specs.Plain.{IsRegister, IsSignedWord, IsSource, IsReturn, IsMoveOp, IsPlainMove, IsPlain}
-use Rattle.insn_table.specs.Sound.{IsInside, IsLeaving, IsClosed}
+use Rattle.insn_table.specs.Closed.{IsInside, IsLeaving, IsClosed}
 use Rattle.insn_table.specs.Table.{HasRegisters, IsTableInsn}
 use Rattle.insn_table.proofs.Rows.{named-row}
 

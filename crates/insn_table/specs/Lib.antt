@@ -1,4 +1,4 @@
-pub mod Sound
+pub mod Closed
 pub mod Plain
 pub mod Spellings
 pub mod Forms

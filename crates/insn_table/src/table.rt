@@ -8,7 +8,7 @@ ghost use Rattle.insn_table.specs.declared.shape.Shape.{Shape};
 ghost use Rattle.insn_table.specs.Spellings.{named, general_rows};
 ghost use Rattle.insn_table.specs.Forms.{forms, takes, fits_of};
 ghost use Rattle.insn_table.specs.Plain.{IsPlain};
-ghost use Rattle.insn_table.specs.Sound.{IsClosed};
+ghost use Rattle.insn_table.specs.Closed.{IsClosed};
 ghost use Rattle.insn_table.specs.Table.{shape_of, HasRegisters, IsTableInsn};
 
 /// A law: each instruction of the table has a word, which names its shape.

@@ -5,7 +5,7 @@ use Rattle.std.proofs.lemmas.Option.{slice_get-get_or}
 use Rattle.align_base.specs.declared.op.Op.{Op}
 use Rattle.align_base.specs.declared.op.Op.TheVariants as ops
 use Rattle.insn_table.specs.declared.insn.Insn.{Insn}
-use Rattle.insn_table.specs.Sound.{IsLeaving}
+use Rattle.insn_table.specs.Closed.{IsLeaving}
 use Rattle.machine.specs.declared.operands.Family.{Family}
 use Rattle.machine.specs.declared.operands.Family.TheVariants.{Computing, Address, Choice, Setting, Branch, Jump, Pushing, Popping, Return, Idle}
 use Rattle.machine.specs.declared.state.StepEnd.{StepEnd}

@@ -9,7 +9,7 @@ use Rattle.insn_table.specs.declared.insn.Insn.{Insn}
 use Rattle.insn_table.specs.declared.insn.Operand.{Operand}
 use Rattle.insn_table.specs.declared.insn.Operand.TheVariants.{Reg, Imm, Mem, Vec, Pool, Target, Nothing}
 use Rattle.insn_table.specs.Forms.{is_addressed, is_nothing}
-use Rattle.insn_table.specs.Sound.{IsClosed}
+use Rattle.insn_table.specs.Closed.{IsClosed}
 use Rattle.insn_table.specs.Table.{IsTableInsn}
 use Rattle.instruction_semantics.specs.Conditions.{cond_of}
 use Rattle.instruction_semantics.specs.Words.{bit}

@@ -12,7 +12,7 @@ use Rattle.insn_table.specs.declared.insn.Operand.TheVariants.{Reg, Imm, Mem, Ve
 use Rattle.insn_table.specs.declared.forms.Class.{Class}
 use Rattle.insn_table.specs.declared.forms.Class.TheVariants.{Register, Place, Count, Address, Label, Absent}
 use Rattle.insn_table.specs.Forms.{Form, forms, form_of, insn_of, is_target, number_fits, numbers_fit, one, takes, takes_kind, two, is_nothing}
-use Rattle.insn_table.specs.Sound.{IsClosed, IsInside}
+use Rattle.insn_table.specs.Closed.{IsClosed, IsInside}
 use Rattle.insn_table.specs.Spellings.{Row, general_rows, add_to_cltq, cmova_to_cmovnc, cmovne_to_cmovz, cmp_to_lea, mov_to_sar, set_rows, shl_to_xor}
 use Rattle.insn_table.specs.Table.{HasRegisters, IsTableInsn, shape_of}
 use Rattle.insn_table.proofs.TableInsns.{both_true, either_true, form-wide, judged-ok, passed_at, wide-cases}

@@ -5,7 +5,7 @@ use Rattle.align_base.specs.declared.op.Op.TheVariants as ops
 use Rattle.insn_table.specs.declared.insn.Insn.{Insn}
 use Rattle.insn_table.specs.declared.insn.Operand.{Operand}
 use Rattle.insn_table.specs.declared.insn.Operand.TheVariants.{Reg, Imm, Mem, Vec, Pool, Target, Nothing}
-use Rattle.insn_table.specs.Sound.{IsLeaving}
+use Rattle.insn_table.specs.Closed.{IsLeaving}
 use Rattle.machine.specs.Operands.{operand}
 use Rattle.machine.specs.Step.{jump_place, target_of}
 

@@ -1,7 +1,7 @@
 ghost use Rattle.std.specs.Prelude.{◌≡◌, ℕ, ◌+◌, ◌*◌, ◌<◌, List, Option, length, max, slice_index};
 ghost use Rattle.insn_table.specs.declared.insn.Insn.{Insn};
 ghost use Rattle.insn_table.specs.Plain.{IsPlain};
-ghost use Rattle.insn_table.specs.Sound.{IsClosed};
+ghost use Rattle.insn_table.specs.Closed.{IsClosed};
 ghost use Rattle.machine.specs.Difference.{SamePlainEnd};
 ghost use Rattle.machine.specs.Equivalent.{AreEquivalent};
 ghost use Rattle.machine.specs.Frame.{SameFrame, SameUnwritable};

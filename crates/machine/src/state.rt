@@ -10,7 +10,7 @@ ghost use Rattle.machine.specs.Step as steps;
 ghost use Rattle.machine.specs.Stepping.{StepsAs};
 ghost use Rattle.instruction_semantics.specs.Words.{bit};
 ghost use Rattle.machine.specs.Runnable.{HasNumbers, HasRowOf, IsNumber, IsRunnable, IsWidth};
-ghost use Rattle.insn_table.specs.Sound.{IsClosed};
+ghost use Rattle.insn_table.specs.Closed.{IsClosed};
 ghost use Rattle.machine.specs.Kept.{AreOrdered, byte_of, IsKept, pure_of};
 ghost use Rattle.machine.specs.Start.{IsCopy, kept_start};
 
