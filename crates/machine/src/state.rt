@@ -11,7 +11,7 @@ ghost use Rattle.machine.specs.Stepping.{StepsAs};
 ghost use Rattle.instruction_semantics.specs.Words.{bit};
 ghost use Rattle.machine.specs.Runnable.{HasNumbers, HasRowOf, IsNumber, IsRunnable, IsWidth};
 ghost use Rattle.insn_table.specs.Closed.{IsClosed};
-ghost use Rattle.machine.specs.Kept.{AreOrdered, byte_of, IsKept, pure_of};
+ghost use Rattle.machine.specs.Kept.{AreOrdered, IsKept, pure_of};
 ghost use Rattle.machine.specs.Start.{IsCopy, kept_start};
 
 use crate::operands::{
@@ -174,9 +174,9 @@ impl State {
         &self.vecs[n as usize]
     }
 
-    /// The byte at an address; one in no span is 0.
+    /// The byte at an address.
     pub fn byte(&self, at: u64) -> u8
-        ensures { result ≡ byte_of self.now.spans at }
+        ensures { result ≡ (pure_of self.now).memory at }
     {
         byte_at(&self.spans, at)
     }
