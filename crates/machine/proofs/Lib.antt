@@ -16,4 +16,5 @@ pub mod RunEnds
 pub mod Runs
 pub mod Sound
 pub mod Targets
+pub mod TestFunctions
 pub mod Words
