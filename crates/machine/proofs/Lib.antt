@@ -19,4 +19,5 @@ pub mod Runs
 pub mod Sound
 pub mod StateRanges
 pub mod Targets
+pub mod TestFunctions
 pub mod Words

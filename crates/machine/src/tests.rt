@@ -1,11 +1,11 @@
-ghost use Rattle.std.specs.Prelude.{◌≡◌, ◌<◌, [], ◌∷◌, false, IfOk, List, length};
-ghost use Rattle.insn_table.specs.declared.insn.Operand.TheVariants.{Nothing};
+ghost use Rattle.std.specs.Prelude.{◌≡◌, ◌<◌, true, IfOk, IfSome, List, length};
 ghost use Rattle.std.specs.List.{AllByRecursion};
-ghost use Rattle.machine.specs.Runnable.{HasNumbers, HasRowOf, IsLeaving, IsRunnable, IsRunnableFunction, IsWidth, JumpsBelow};
+ghost use Rattle.insn_table.specs.Sound.{IsClosed, IsInside, IsLeaving};
+ghost use Rattle.insn_table.specs.Table.{HasRegisters, IsTableInsn};
 
 use crate::{Region, RunEnd, Span, State, StepEnd};
-use align_base::{Cond, Word};
-use insn_table::{Bytes, Function, Insn, Insns, Op, Operand};
+use align_base::Word;
+use insn_table::{Bytes, Function, Insn, Insns, Op, Operand, fits, look_up};
 use lane_views::Bytes32;
 use std::alloc::Global;
 use std::test::Fail;
@@ -16,53 +16,69 @@ const RCX: u8 = 1;
 
 const RSP: u8 = 4;
 
+const RSI: u8 = 6;
+
+const RDI: u8 = 7;
+
 const NONE: Operand = Operand::Nothing;
 
-// A return.
-fn leave() -> Insn
-    ensures runnable { IsRunnable 2 result }
-    ensures leaves { IsLeaving result.op }
-{
-    Insn {
-        op: Op::Ret,
-        w: 64,
-        vex: false,
-        args: [NONE, NONE, NONE, NONE],
-        line: 1,
+const EAX: Operand = Operand::Reg { n: RAX, w: 32 };
+
+const CONDITIONAL_JUMPS: [&[u8]; 16] = [
+    b"jo", b"jno", b"jb", b"jae", b"je", b"jne", b"jbe", b"ja", b"js", b"jns", b"jp", b"jnp",
+    b"jl", b"jge", b"jle", b"jg",
+];
+
+// Memory at %rcx.
+const AT_RCX: Operand = Operand::Mem {
+    base: Some(RCX),
+    index: None,
+    scale: 1,
+    disp: 0,
+};
+
+// The word of an instruction and its operands.
+#[derive(Clone, Copy)]
+struct Line {
+    word: &'static [u8],
+    args: [Operand; 4],
+}
+
+fn none(word: &'static [u8]) -> Line {
+    Line {
+        word,
+        args: [NONE; 4],
     }
 }
 
-// An instruction with two operands or fewer, among ten instructions.
-fn insn(op: Op, w: u32, first: Operand, second: Operand) -> Insn
-    requires width { IsWidth w }
-    requires first { HasNumbers first }
-    requires second { HasNumbers second }
-    requires row { HasRowOf op (record { op = op; w = w; vex = false; args = first ∷ second ∷ Nothing ∷ Nothing ∷ []; line = 1 }) }
-    requires jump { JumpsBelow 2 op (record { op = op; w = w; vex = false; args = first ∷ second ∷ Nothing ∷ Nothing ∷ []; line = 1 }) }
-    ensures { IsRunnable 2 result }
-{
-    Insn {
-        op,
-        w,
-        vex: false,
+fn one(word: &'static [u8], first: Operand) -> Line {
+    Line {
+        word,
+        args: [first, NONE, NONE, NONE],
+    }
+}
+
+fn two(word: &'static [u8], first: Operand, second: Operand) -> Line {
+    Line {
+        word,
         args: [first, second, NONE, NONE],
-        line: 1,
+    }
+}
+
+fn three(word: &'static [u8], first: Operand, second: Operand, third: Operand) -> Line {
+    Line {
+        word,
+        args: [first, second, third, NONE],
     }
 }
 
 // A register of `w` bits.
-fn register(n: u8, w: u32) -> Operand
-    requires { n < 16 }
-    ensures { HasNumbers result }
-{
+fn register(n: u8, w: u32) -> Operand {
     Operand::Reg { n, w }
 }
 
 // Memory at a register and a displacement.
-fn memory(base: u8, disp: i32) -> Operand
-    requires { base < 16 }
-    ensures { HasNumbers result }
-{
+fn memory(base: u8, disp: i32) -> Operand {
     Operand::Mem {
         base: Some(base),
         index: None,
@@ -71,15 +87,84 @@ fn memory(base: u8, disp: i32) -> Operand
     }
 }
 
-// The function of these instructions and a return.
-fn function(alloc: Global, body: &[Insn]) -> Result<Function, Fail>
-    requires body { AllByRecursion (IsRunnable 2) body.now }
-    requires some { 0 < length body.now }
-    requires few { length body.now < 10 }
-    ensures { IfOk result (λ f. IsRunnableFunction f.insns) }
+// Whether a register, where there is one, is one of the sixteen.
+fn is_register(n: Option<u8>) -> bool
+    ensures { result ≡ true → IfSome n (λ k. k < 16) }
 {
-    let mut insns = Vec::from_slice(alloc, body)?;
-    insns.push(leave())?;
+    match n {
+        None => true,
+        Some(k) => k < 16,
+    }
+}
+
+// Whether an operand has registers and a scale that there are, and as a target one of `count` places.
+fn stands(operand: Operand, count: u32) -> bool
+    ensures registers { result ≡ true → HasRegisters operand }
+    ensures inside { result ≡ true → IsInside count operand }
+{
+    match operand {
+        Operand::Reg { n, .. } | Operand::Vec { n, .. } => n < 16,
+        Operand::Mem {
+            base,
+            index,
+            scale,
+            ..
+        } => is_register(base) && is_register(index) && matches!(scale, 1 | 2 | 4 | 8),
+        Operand::Target(place) => place < count,
+        _ => true,
+    }
+}
+
+// The instruction of a line, which is one of the table where its registers are such that there are.
+fn fitted(line: &Line) -> Option<Insn>
+    ensures { IfSome result (λ i. AllByRecursion HasRegisters i.args → IsTableInsn i) }
+{
+    let shape = look_up(line.word)?;
+    match fits(shape, line.args, 1) {
+        Ok(insn) => Some(insn),
+        Err(_) => None,
+    }
+}
+
+// The instruction of a line, among `count`, where it is one of the table.
+fn insn(line: &Line, count: u32) -> Option<Insn>
+    ensures table { IfSome result IsTableInsn }
+    ensures targets { IfSome result (λ i. AllByRecursion (IsInside count) i.args) }
+{
+    let insn = fitted(line)?;
+    let [first, second, third, fourth] = insn.args;
+    let known = stands(first, count) && stands(second, count);
+    if known && stands(third, count) && stands(fourth, count) {
+        Some(insn)
+    } else {
+        None
+    }
+}
+
+// A return, among `count` instructions.
+fn leave(count: u32) -> Option<Insn>
+    ensures table { IfSome result IsTableInsn }
+    ensures targets { IfSome result (λ i. AllByRecursion (IsInside count) i.args) }
+    ensures leaves { IfSome result (λ i. IsLeaving i.op) }
+{
+    let insn = insn(&none(b"ret"), count)?;
+    match insn.op {
+        Op::Ret => Some(insn),
+        _ => None,
+    }
+}
+
+// The function of these lines and a return.
+fn function(alloc: Global, body: &[Line]) -> Result<Function, Fail>
+    requires few { length body.now < 10 }
+    ensures { IfOk result (λ f. IsClosed f.insns) }
+{
+    let count = body.len() as u32 + 1;
+    let mut insns = Vec::new(alloc);
+    for line in body {
+        insns.push(insn(line, count).ok_or("no instruction of the table")?)?;
+    }
+    insns.push(leave(count).ok_or("no return")?)?;
     let name = Word::new(alloc, b"f")?;
     Ok(Function {
         name,
@@ -88,8 +173,17 @@ fn function(alloc: Global, body: &[Insn]) -> Result<Function, Fail>
     })
 }
 
-// 16 bytes that may be read and written from 4096 on, and 16 declared stack bytes below 8192, which
-// is in %rsp.
+// A region.
+fn region(base: u64, len: u64, write: bool) -> Region
+    ensures { result ≡ record { base = base; len = len; write = write } }
+{
+    Region { base, len, write }
+}
+
+// The bytes 0x11 in regions, and 16 declared stack bytes, which are 0, below 8192, which is in %rsp.
+// From 4096 to 4111 stands one region. From 4128 and from 4136 stand two of 8 bytes side by side, and
+// again from 4160 and from 4168, where a third stands over both. From 4192 to 4207 stands one that may
+// be read alone, and one has the last 16 bytes below 2^64.
 fn start(alloc: Global, rax: u64, rcx: u64) -> Result<State, Fail>
     ensures { IfOk result (λ s. s.place ≡ 0) }
 {
@@ -100,25 +194,34 @@ fn start(alloc: Global, rax: u64, rcx: u64) -> Result<State, Fail>
     let mut spans = Vec::new(alloc);
     spans.push(Span {
         at: 4096,
-        bytes: Vec::from_slice(alloc, &[0x11; 16])?,
+        bytes: Vec::from_slice(alloc, &[0x11; 112])?,
     })?;
     spans.push(Span {
         at: 8176,
         bytes: Vec::from_slice(alloc, &[0; 24])?,
     })?;
-    let mut regions = Vec::new(alloc);
-    regions.push(Region {
-        base: 4096,
-        len: 16,
-        write: true,
+    spans.push(Span {
+        at: 0xFFFF_FFFF_FFFF_FFF0,
+        bytes: Vec::from_slice(alloc, &[0x11; 16])?,
     })?;
+    let regions = [
+        region(4096, 16, true),
+        region(4128, 8, true),
+        region(4136, 8, true),
+        region(4160, 8, true),
+        region(4168, 8, true),
+        region(4160, 16, true),
+        region(4192, 16, false),
+        region(0xFFFF_FFFF_FFFF_FFF0, 16, true),
+    ];
+    let regions = Vec::from_slice(alloc, &regions)?;
     Ok(State::new(regs, [Bytes32 { bytes: [0; 32] }; 16], spans, regions, 16))
 }
 
 #[test]
 fn memory_at_the_ends_of_a_region(rt: HostRuntime) -> Result<(), Fail> {
-    // add %eax, (%rcx); ret
-    let add = insn(Op::Add, 32, register(RAX, 32), memory(RCX, 0));
+    // addl %eax,(%rcx)
+    let add = two(b"addl", EAX, AT_RCX);
     let f = function(rt.alloc(), &[add])?;
     for (at, end) in [
         (4096, RunEnd::Returned(2)),
@@ -145,17 +248,14 @@ fn memory_at_the_ends_of_a_region(rt: HostRuntime) -> Result<(), Fail> {
 
 #[test]
 fn writes_of_each_width(rt: HostRuntime) -> Result<(), Fail> {
-    // mov (%rcx), part of %rax
-    for (w, rax) in [
-        (8, 0xFFFF_FFFF_FFFF_FF11),
-        (16, 0xFFFF_FFFF_FFFF_1111),
-        (32, 0x1111_1111),
-        (64, 0x1111_1111_1111_1111),
+    // 8(%rcx) into a part of %rax
+    for (word, w, rax) in [
+        (b"movb", 8, 0xFFFF_FFFF_FFFF_FF11),
+        (b"movw", 16, 0xFFFF_FFFF_FFFF_1111),
+        (b"movl", 32, 0x1111_1111),
+        (b"movq", 64, 0x1111_1111_1111_1111),
     ] {
-        let f = function(
-            rt.alloc(),
-            &[insn(Op::Mov, w, memory(RCX, 8), register(RAX, w))],
-        )?;
+        let f = function(rt.alloc(), &[two(word, memory(RCX, 8), register(RAX, w))])?;
         let mut state = start(rt.alloc(), 0xFFFF_FFFF_FFFF_FFFF, 4096)?;
         assert_eq!(rt; state.run(&f, 9), RunEnd::Returned(2));
         assert_eq!(rt; state.reg(RAX), rax);
@@ -167,7 +267,7 @@ fn writes_of_each_width(rt: HostRuntime) -> Result<(), Fail> {
 #[test]
 fn an_unset_flag_ends_the_run(rt: HostRuntime) -> Result<(), Fail> {
     // a jump whose ways lead to the same place, at the entry, where no flag is set
-    let jump = insn(Op::Jump(Cond::O), 64, Operand::Target(1), NONE);
+    let jump = one(b"jo", Operand::Target(1));
     let f = function(rt.alloc(), &[jump])?;
     let mut state = start(rt.alloc(), 0, 0)?;
     assert_eq!(rt; state.run(&f, 9), RunEnd::Unset(1));
@@ -178,18 +278,334 @@ fn an_unset_flag_ends_the_run(rt: HostRuntime) -> Result<(), Fail> {
 #[test]
 fn the_stack_within_its_bytes(rt: HostRuntime) -> Result<(), Fail> {
     // push %rsp stores the value before; ret with %rsp moved faults
-    let push = function(rt.alloc(), &[insn(Op::Push, 64, register(RSP, 64), NONE)])?;
+    let push = function(rt.alloc(), &[one(b"pushq", register(RSP, 64))])?;
     let mut state = start(rt.alloc(), 0, 0)?;
     assert_eq!(rt; state.run(&push, 9), RunEnd::Faulted(2));
     assert_eq!(rt; state.reg(RSP), 8184);
     assert_eq!(rt; state.byte(8184), 0);
     assert_eq!(rt; state.byte(8185), 0x20);
     // pop above the declared bytes
-    let pop = function(rt.alloc(), &[insn(Op::Pop, 64, register(RAX, 64), NONE)])?;
+    let pop = function(rt.alloc(), &[one(b"popq", register(RAX, 64))])?;
     let mut state = start(rt.alloc(), 0, 0)?;
     assert_eq!(rt; state.run(&pop, 9), RunEnd::Faulted(1));
     let copy = state.copy(rt.alloc())?;
     assert_eq!(rt; copy.reg(RSP), 8192);
     assert_eq!(rt; *copy.vec(15), Bytes32 { bytes: [0; 32] });
+    Ok(())
+}
+
+#[test]
+fn an_access_over_adjacent_regions_wants_one_that_has_both(rt: HostRuntime) -> Result<(), Fail> {
+    let f = function(rt.alloc(), &[two(b"movl", AT_RCX, EAX)])?;
+    for (at, end) in [
+        (4132, RunEnd::Returned(2)),
+        (4134, RunEnd::Faulted(1)),
+        (4136, RunEnd::Returned(2)),
+        (4166, RunEnd::Returned(2)),
+        (4173, RunEnd::Faulted(1)),
+    ] {
+        let mut state = start(rt.alloc(), 0, at)?;
+        assert_eq!(rt; state.run(&f, 9), end, "at {at}");
+    }
+    Ok(())
+}
+
+#[test]
+fn a_region_that_ends_at_the_last_address(rt: HostRuntime) -> Result<(), Fail> {
+    for (word, w, at, end) in [
+        (b"movb", 8, 0xFFFF_FFFF_FFFF_FFFF, RunEnd::Returned(2)),
+        (b"movb", 8, 0, RunEnd::Faulted(1)),
+        (b"movb", 8, 0xFFFF_FFFF_FFFF_FFEF, RunEnd::Faulted(1)),
+        (b"movw", 16, 0xFFFF_FFFF_FFFF_FFFE, RunEnd::Returned(2)),
+        (b"movw", 16, 0xFFFF_FFFF_FFFF_FFFF, RunEnd::Faulted(1)),
+        (b"movq", 64, 0xFFFF_FFFF_FFFF_FFF8, RunEnd::Returned(2)),
+        (b"movq", 64, 0xFFFF_FFFF_FFFF_FFF9, RunEnd::Faulted(1)),
+    ] {
+        let held = register(RAX, w);
+        for (from, to) in [(AT_RCX, held), (held, AT_RCX)] {
+            let f = function(rt.alloc(), &[two(word, from, to)])?;
+            let mut state = start(rt.alloc(), 0, at)?;
+            assert_eq!(rt; state.run(&f, 9), end, "at {at}");
+        }
+    }
+    Ok(())
+}
+
+#[test]
+fn sums_of_addresses_wrap(rt: HostRuntime) -> Result<(), Fail> {
+    let scaled = Operand::Mem {
+        base: Some(RCX),
+        index: Some(RAX),
+        scale: 8,
+        disp: 8,
+    };
+    for (from, rax, rcx) in [
+        (memory(RCX, 4104), 0, 0xFFFF_FFFF_FFFF_FFF8),
+        (memory(RCX, -16), 0, 4112),
+        (scaled, 0x2000_0000_0000_0000, 4088),
+        (scaled, 0xFFFF_FFFF_FFFF_FFFF, 4096),
+    ] {
+        let load = function(rt.alloc(), &[two(b"movl", from, EAX)])?;
+        let mut state = start(rt.alloc(), rax, rcx)?;
+        assert_eq!(rt; state.run(&load, 9), RunEnd::Returned(2));
+        assert_eq!(rt; state.reg(RAX), 0x1111_1111);
+        let address = function(rt.alloc(), &[two(b"leaq", from, register(RAX, 64))])?;
+        let mut state = start(rt.alloc(), rax, rcx)?;
+        assert_eq!(rt; state.run(&address, 9), RunEnd::Returned(2));
+        assert_eq!(rt; state.reg(RAX), 4096);
+    }
+    Ok(())
+}
+
+#[test]
+fn a_region_that_may_be_read_alone(rt: HostRuntime) -> Result<(), Fail> {
+    for (line, end) in [
+        (two(b"movl", AT_RCX, EAX), RunEnd::Returned(2)),
+        (two(b"addl", AT_RCX, EAX), RunEnd::Returned(2)),
+        (two(b"cmpl", EAX, AT_RCX), RunEnd::Returned(2)),
+        (two(b"testl", EAX, AT_RCX), RunEnd::Returned(2)),
+        (two(b"movl", EAX, AT_RCX), RunEnd::Faulted(1)),
+        (two(b"addl", EAX, AT_RCX), RunEnd::Faulted(1)),
+        (one(b"notl", AT_RCX), RunEnd::Faulted(1)),
+        (one(b"shll", AT_RCX), RunEnd::Faulted(1)),
+    ] {
+        let f = function(rt.alloc(), &[line])?;
+        let mut state = start(rt.alloc(), 0, 4192)?;
+        assert_eq!(rt; state.run(&f, 9), end);
+        assert_eq!(rt; state.byte(4192), 0x11);
+    }
+    Ok(())
+}
+
+#[test]
+fn a_push_below_the_declared_bytes_faults(rt: HostRuntime) -> Result<(), Fail> {
+    let push = one(b"pushq", register(RAX, 64));
+    let f = function(rt.alloc(), &[push, push, push])?;
+    let mut state = start(rt.alloc(), 0x0102_0304_0506_0708, 0)?;
+    assert_eq!(rt; state.run(&f, 9), RunEnd::Faulted(3));
+    assert_eq!(rt; state.place(), 2);
+    assert_eq!(rt; state.reg(RSP), 8176);
+    for (at, byte) in [(8176, 8), (8183, 1), (8184, 8), (8191, 1), (8192, 0)] {
+        assert_eq!(rt; state.byte(at), byte, "at {at}");
+    }
+    Ok(())
+}
+
+#[test]
+fn a_pop_above_the_declared_bytes_faults(rt: HostRuntime) -> Result<(), Fail> {
+    let push = one(b"pushq", register(RAX, 64));
+    let pop = one(b"popq", register(RCX, 64));
+    let f = function(rt.alloc(), &[push, pop, pop])?;
+    let mut state = start(rt.alloc(), 0x0102_0304_0506_0708, 0)?;
+    assert_eq!(rt; state.run(&f, 9), RunEnd::Faulted(3));
+    assert_eq!(rt; state.place(), 2);
+    assert_eq!(rt; state.reg(RSP), 8192);
+    assert_eq!(rt; state.reg(RCX), 0x0102_0304_0506_0708);
+    Ok(())
+}
+
+#[test]
+fn a_return_wants_the_stack_pointer_of_the_entry(rt: HostRuntime) -> Result<(), Fail> {
+    let rsp = register(RSP, 64);
+    let push = one(b"pushq", register(RAX, 64));
+    let pop = one(b"popq", register(RCX, 64));
+    for (first, second, end) in [
+        (push, pop, RunEnd::Returned(3)),
+        (push, none(b"nop"), RunEnd::Faulted(3)),
+        (
+            two(b"subq", Operand::Imm(8), rsp),
+            none(b"endbr64"),
+            RunEnd::Faulted(3),
+        ),
+        (
+            two(b"leaq", memory(RSP, 8), rsp),
+            none(b"nop"),
+            RunEnd::Faulted(3),
+        ),
+        (
+            two(b"leaq", memory(RSP, 8), rsp),
+            two(b"leaq", memory(RSP, -8), rsp),
+            RunEnd::Returned(3),
+        ),
+    ] {
+        let f = function(rt.alloc(), &[first, second])?;
+        let mut state = start(rt.alloc(), 0, 0)?;
+        assert_eq!(rt; state.run(&f, 9), end);
+        assert_eq!(rt; state.place(), 2);
+    }
+    Ok(())
+}
+
+#[test]
+fn a_product_leaves_each_flag_unset(rt: HostRuntime) -> Result<(), Fail> {
+    // cmpl %esi,%edi; imull %esi,%edi; and a jump to the return
+    let operands = (register(RSI, 32), register(RDI, 32));
+    for word in CONDITIONAL_JUMPS {
+        let f = function(
+            rt.alloc(),
+            &[
+                two(b"cmpl", operands.0, operands.1),
+                two(b"imull", operands.0, operands.1),
+                one(word, Operand::Target(3)),
+            ],
+        )?;
+        let mut state = start(rt.alloc(), 0, 0)?;
+        assert_eq!(rt; state.step(&f), StepEnd::Next);
+        assert_eq!(rt; state.step(&f), StepEnd::Next);
+        assert_eq!(rt; state.step(&f), StepEnd::Unset);
+        assert_eq!(rt; state.place(), 2);
+    }
+    // imull %esi,%edi; jo .L1; .L1: ret
+    let f = function(
+        rt.alloc(),
+        &[
+            two(b"imull", operands.0, operands.1),
+            one(b"jo", Operand::Target(2)),
+        ],
+    )?;
+    let mut state = start(rt.alloc(), 0, 0)?;
+    assert_eq!(rt; state.step(&f), StepEnd::Next);
+    assert_eq!(rt; state.step(&f), StepEnd::Unset);
+    assert_eq!(rt; state.place(), 1);
+    Ok(())
+}
+
+#[test]
+fn a_jump_reads_its_flags_where_both_ways_are_one(rt: HostRuntime) -> Result<(), Fail> {
+    for word in CONDITIONAL_JUMPS {
+        let unset = function(rt.alloc(), &[one(word, Operand::Target(1))])?;
+        let mut state = start(rt.alloc(), 0, 0)?;
+        assert_eq!(rt; state.run(&unset, 9), RunEnd::Unset(1));
+        let compare = two(b"cmpl", EAX, EAX);
+        let set = function(rt.alloc(), &[compare, one(word, Operand::Target(2))])?;
+        let mut state = start(rt.alloc(), 0, 0)?;
+        assert_eq!(rt; state.run(&set, 9), RunEnd::Returned(3));
+    }
+    Ok(())
+}
+
+#[test]
+fn a_move_whose_condition_is_false(rt: HostRuntime) -> Result<(), Fail> {
+    // equal operands: ne does not hold, and e does
+    for (word, w, rax) in [
+        (b"cmovne".as_slice(), 32, 5),
+        (b"cmovnel".as_slice(), 32, 5),
+        (b"cmovnew".as_slice(), 16, 0xFFFF_FFFF_0000_0005),
+        (b"cmovneq".as_slice(), 64, 0xFFFF_FFFF_0000_0005),
+        (b"cmove".as_slice(), 32, 7),
+        (b"cmovew".as_slice(), 16, 0xFFFF_FFFF_0000_0007),
+        (b"cmoveq".as_slice(), 64, 7),
+    ] {
+        let choice = two(word, register(RCX, w), register(RAX, w));
+        let f = function(rt.alloc(), &[two(b"cmpl", EAX, EAX), choice])?;
+        let mut state = start(rt.alloc(), 0xFFFF_FFFF_0000_0005, 7)?;
+        assert_eq!(rt; state.run(&f, 9), RunEnd::Returned(3));
+        assert_eq!(rt; state.reg(RAX), rax);
+    }
+    Ok(())
+}
+
+#[test]
+fn a_move_whose_condition_is_false_reads_its_memory(rt: HostRuntime) -> Result<(), Fail> {
+    let choice = two(b"cmovne", AT_RCX, EAX);
+    let f = function(rt.alloc(), &[two(b"cmpl", EAX, EAX), choice])?;
+    let mut state = start(rt.alloc(), 0xFFFF_FFFF_0000_0005, 4096)?;
+    assert_eq!(rt; state.run(&f, 9), RunEnd::Returned(3));
+    assert_eq!(rt; state.reg(RAX), 5);
+    let mut state = start(rt.alloc(), 0xFFFF_FFFF_0000_0005, 0)?;
+    assert_eq!(rt; state.run(&f, 9), RunEnd::Faulted(2));
+    assert_eq!(rt; state.reg(RAX), 0xFFFF_FFFF_0000_0005);
+    assert_eq!(rt; state.place(), 1);
+    Ok(())
+}
+
+#[test]
+fn an_unset_flag_wins_over_a_fault(rt: HostRuntime) -> Result<(), Fail> {
+    for line in [two(b"cmovne", AT_RCX, EAX), one(b"sete", AT_RCX)] {
+        let unset = function(rt.alloc(), &[line])?;
+        let set = function(rt.alloc(), &[two(b"cmpl", EAX, EAX), line])?;
+        let mut state = start(rt.alloc(), 0, 0)?;
+        assert_eq!(rt; state.run(&unset, 9), RunEnd::Unset(1));
+        let mut state = start(rt.alloc(), 0, 0)?;
+        assert_eq!(rt; state.run(&set, 9), RunEnd::Faulted(2));
+    }
+    Ok(())
+}
+
+#[test]
+fn memory_of_each_class_at_the_ends_of_a_region(rt: HostRuntime) -> Result<(), Fail> {
+    let one_more = Operand::Imm(1);
+    for (line, bytes) in [
+        (two(b"movb", AT_RCX, register(RAX, 8)), 1),
+        (two(b"movw", register(RAX, 16), AT_RCX), 2),
+        (two(b"movl", one_more, AT_RCX), 4),
+        (two(b"movq", AT_RCX, register(RAX, 64)), 8),
+        (two(b"addl", AT_RCX, EAX), 4),
+        (two(b"subq", register(RAX, 64), AT_RCX), 8),
+        (two(b"andb", one_more, AT_RCX), 1),
+        (two(b"orw", AT_RCX, register(RAX, 16)), 2),
+        (two(b"xorl", EAX, AT_RCX), 4),
+        (two(b"cmpq", one_more, AT_RCX), 8),
+        (two(b"testb", register(RAX, 8), AT_RCX), 1),
+        (one(b"incw", AT_RCX), 2),
+        (one(b"decb", AT_RCX), 1),
+        (one(b"negq", AT_RCX), 8),
+        (one(b"notl", AT_RCX), 4),
+        (two(b"shll", Operand::Imm(3), AT_RCX), 4),
+        (one(b"shrq", AT_RCX), 8),
+        (one(b"sarw", AT_RCX), 2),
+        (two(b"imulw", AT_RCX, register(RAX, 16)), 2),
+        (three(b"imulq", one_more, AT_RCX, register(RAX, 64)), 8),
+        (two(b"movzbl", AT_RCX, EAX), 1),
+        (two(b"movzwq", AT_RCX, register(RAX, 64)), 2),
+        (two(b"movslq", AT_RCX, register(RAX, 64)), 4),
+        (two(b"cmove", AT_RCX, EAX), 4),
+        (two(b"cmovneq", AT_RCX, register(RAX, 64)), 8),
+        (one(b"setne", AT_RCX), 1),
+    ] {
+        // cmpl %eax,%eax sets the flags first
+        let f = function(rt.alloc(), &[two(b"cmpl", EAX, EAX), line])?;
+        for (at, end) in [
+            (4095, RunEnd::Faulted(2)),
+            (4096, RunEnd::Returned(3)),
+            (4112u64.wrapping_sub(bytes), RunEnd::Returned(3)),
+            (4113u64.wrapping_sub(bytes), RunEnd::Faulted(2)),
+        ] {
+            let mut state = start(rt.alloc(), 0, at)?;
+            assert_eq!(rt; state.run(&f, 9), end, "{bytes} bytes at {at}");
+        }
+    }
+    // lea makes no access
+    let f = function(rt.alloc(), &[two(b"leal", AT_RCX, EAX)])?;
+    let mut state = start(rt.alloc(), 0, 5)?;
+    assert_eq!(rt; state.run(&f, 9), RunEnd::Returned(2));
+    assert_eq!(rt; state.reg(RAX), 5);
+    Ok(())
+}
+
+#[test]
+fn a_step_that_ends_the_run_repeats(rt: HostRuntime) -> Result<(), Fail> {
+    for (line, end, run_end) in [
+        (none(b"ret"), StepEnd::Return, RunEnd::Returned(1)),
+        (
+            one(b"popq", register(RAX, 64)),
+            StepEnd::Fault,
+            RunEnd::Faulted(1),
+        ),
+        (
+            one(b"jo", Operand::Target(1)),
+            StepEnd::Unset,
+            RunEnd::Unset(1),
+        ),
+    ] {
+        let f = function(rt.alloc(), &[line])?;
+        let mut state = start(rt.alloc(), 3, 0)?;
+        assert_eq!(rt; state.step(&f), end);
+        assert_eq!(rt; state.step(&f), end);
+        assert_eq!(rt; state.step(&f), end);
+        assert_eq!(rt; state.run(&f, 9), run_end);
+        assert_eq!(rt; state.place(), 0);
+        assert_eq!(rt; state.reg(RAX), 3);
+    }
     Ok(())
 }
