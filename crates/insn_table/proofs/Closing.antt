@@ -1,8 +1,6 @@
 -- A plain function is closed: its moves and its return are instructions of the table, and go nowhere else.
-use Rattle.std.proofs.Common.{◌≡◌, ℕ, zero, suc, ◌+◌, ◌-◌, ◌^◌, ◌<◌, inl, inr, Bool, true, false, ◌||◌, List, [], ◌∷◌, ◌++◌, length, Some, Ok, codes, refl, sym, ap, ◌∙◌, subst, length-append, arith}
-use Rattle.std.specs.Prelude.{slice_get}
+use Rattle.std.proofs.Common.{◌≡◌, ℕ, ◌+◌, ◌-◌, ◌^◌, ◌<◌, inl, inr, Bool, true, false, ◌||◌, List, [], ◌∷◌, ◌++◌, length, Some, Ok, codes, refl, sym, ap, ◌∙◌, subst, length-append, arith}
 use Rattle.std.specs.List.{AllByRecursion}
-use Rattle.std.proofs.lemmas.Option.{same_Some}
 use Rattle.std.proofs.lemmas.Bool.{le-leb}
 use Rattle.align_base.specs.declared.op.Op.{Op}
 use Rattle.align_base.specs.declared.op.Op.TheVariants.{Mov, Add, Sub, Ret}
@@ -14,6 +12,7 @@ use Rattle.insn_table.specs.Forms.{is_immediate, fits_of}
 use Rattle.insn_table.specs.Plain.{IsRegister, IsSignedWord, IsSource, IsReturn, IsMoveOp, IsPlainMove, IsPlain}
 use Rattle.insn_table.specs.Closed.{IsInside, IsLeaving, IsClosed}
 use Rattle.insn_table.specs.Table.{HasRegisters, IsTableInsn}
+use Rattle.insn_table.proofs.ClosedLists.{closed_by}
 use Rattle.insn_table.proofs.Rows.{named-row}
 
 -- an instruction of 64 bits
@@ -132,32 +131,23 @@ return-kept n i r =
 
 -- whole functions
 
-kept-at : (n : ℕ) (moves : List Insn) (last : Insn) (k : ℕ) (i : Insn) → AllByRecursion IsPlainMove moves → IsReturn last → slice_get (moves ++ last ∷ []) k ≡ Some i → IsKept n i
-kept-at n [] last zero i each returns there = subst (IsKept n) (same_Some last i there) (return-kept n last returns)
-kept-at n [] last (suc k) i each returns there = absurd (cc)
-kept-at n (m ∷ ms) last zero i each returns there = subst (IsKept n) (same_Some m i there) (plain-kept n m each.0)
-kept-at n (m ∷ ms) last (suc k) i each returns there = kept-at n ms last k i each.1 returns there
+tables : (n : ℕ) (moves : List Insn) → AllByRecursion IsPlainMove moves → AllByRecursion IsTableInsn moves
+tables n [] each = tt
+tables n (m ∷ ms) each = ((plain-kept n m each.0).table, tables n ms each.1)
 
-last-at : (moves : List Insn) (last : Insn) → slice_get (moves ++ last ∷ []) (length moves) ≡ Some last
-last-at [] last = refl
-last-at (m ∷ ms) last = last-at ms last
+insides : (n : ℕ) (moves : List Insn) → AllByRecursion IsPlainMove moves → AllByRecursion (λ i. AllByRecursion (IsInside n) i.args) moves
+insides n [] each = tt
+insides n (m ∷ ms) each = ((plain-kept n m each.0).inside, insides n ms each.1)
 
-closed-by : (moves : List Insn) (last : Insn) → AllByRecursion IsPlainMove moves → IsReturn last → length (moves ++ last ∷ []) < 2 ^ 32 → IsClosed (moves ++ last ∷ [])
-closed-by moves last each returns few =
-    let insns : List Insn = moves ++ last ∷ [] in
-    let count : length (moves ++ last ∷ []) ≡ length moves + 1 = length-append moves (last ∷ []) in
-    record {
-      some = omega (arith, count);
-      few = few;
-      each = λ k i there. (kept-at (length insns) moves last k i each returns there).table;
-      targets = λ k i there. (kept-at (length insns) moves last k i each returns there).inside;
-      last = λ i there.
-          let end : length insns - 1 ≡ length moves = omega (arith, count) in
-          let same : last ≡ i = same_Some last i (sym (last-at moves last) ∙ ap (slice_get insns) (sym end) ∙ there) in
-          subst (λ (x : Insn). IsLeaving x.op) same (subst IsLeaving (sym returns.op) tt);
-    }
+closed : (moves : List Insn) (last : Insn) → AllByRecursion IsPlainMove moves → IsReturn last → length (moves ++ last ∷ []) < 2 ^ 32 → IsClosed (moves ++ last ∷ [])
+closed moves last each returns few =
+    let n : ℕ = length moves + 1 in
+    let count : length (moves ++ last ∷ []) ≡ n = length-append moves (last ∷ []) in
+    let end = return-kept n last returns in
+    closed_by moves last n refl (omega (arith, count, few)) (tables n moves each) (insides n moves each) end.table end.inside
+    (subst IsLeaving (sym returns.op) tt)
 
 pub plain-closed : (insns : List Insn) → IsPlain insns → length insns < 2 ^ 32 → IsClosed insns
-plain-closed insns p few = subst IsClosed (sym p.whole) (closed-by p.moves p.last p.each p.returns (subst (λ (x : List Insn). length x < 2 ^ 32) p.whole few))
+plain-closed insns p few = subst IsClosed (sym p.whole) (closed p.moves p.last p.each p.returns (subst (λ (x : List Insn). length x < 2 ^ 32) p.whole few))
 
 pub ruleset closing = (plain-closed)

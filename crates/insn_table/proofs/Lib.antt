@@ -2,4 +2,5 @@ pub mod Rows
 pub mod Judging
 pub mod TableInsns
 pub mod Apart
+pub mod ClosedLists
 pub mod Closing

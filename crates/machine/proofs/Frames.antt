@@ -23,7 +23,7 @@ use Rattle.machine.specs.Runnable.{IsRegister}
 use Rattle.machine.specs.Step.{after_row, allows_at, conditional, free_at, free_by, register_number, result_of, step_of, target_of, tested}
 use Rattle.machine.specs.declared.state.Region.{Region}
 use Rattle.machine.proofs.Runs.{run_keeps}
-use Rattle.machine.proofs.Sound.{lea_register}
+use Rattle.machine.proofs.Closed.{lea_register}
 
 -- what holds of the next state, where there is one
 abbrev pub LeadsTo : {S : Type 0} → (S → Type 0) → Step S → Type 0

@@ -16,8 +16,7 @@ pub mod Returning
 pub mod RowValues
 pub mod RunEnds
 pub mod Runs
-pub mod Sound
+pub mod Closed
 pub mod StateRanges
 pub mod Targets
-pub mod TestFunctions
 pub mod Words

@@ -1,6 +1,6 @@
 ghost use Rattle.std.specs.Prelude.{◌≡◌, ◌<◌, true, IfOk, IfSome, List, length};
 ghost use Rattle.std.specs.List.{AllByRecursion};
-ghost use Rattle.insn_table.specs.Sound.{IsClosed, IsInside, IsLeaving};
+ghost use Rattle.insn_table.specs.Closed.{IsClosed, IsInside, IsLeaving};
 ghost use Rattle.insn_table.specs.Table.{HasRegisters, IsTableInsn};
 
 use crate::{Region, RunEnd, Span, State, StepEnd};

@@ -1,4 +1,4 @@
-use Rattle.machine.proofs.Sound.{closed-runnable}
+use Rattle.machine.proofs.Closed.{closed-runnable}
 use Rattle.machine.proofs.StateRanges.{run_ranged, step_ranged}
 use Rattle.machine.proofs.laws.state_law.Goals as goal
 

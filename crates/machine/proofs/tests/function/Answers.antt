@@ -1,6 +1,6 @@
 use Rattle.std.proofs.Common.{◌≡◌, [], ◌∷◌, ◌++◌, sym, subst, arith, ◌∙◌}
-use Rattle.insn_table.specs.Sound.{IsClosed}
-use Rattle.machine.proofs.TestFunctions.{closed_by}
+use Rattle.insn_table.specs.Closed.{IsClosed}
+use Rattle.insn_table.proofs.ClosedLists.{closed_by}
 use Rattle.machine.proofs.tests.function.Goals as goal
 
 pub returns : goal.returns

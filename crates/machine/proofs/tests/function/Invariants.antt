@@ -1,6 +1,6 @@
 use Rattle.std.proofs.Common.{◌≡◌, length}
 use Rattle.std.specs.List.{AllByRecursion}
-use Rattle.insn_table.specs.Sound.{IsInside}
+use Rattle.insn_table.specs.Closed.{IsInside}
 use Rattle.insn_table.specs.Table.{IsTableInsn}
 use Rattle.machine.proofs.tests.function.Given as goal
 

@@ -2,7 +2,7 @@ use Rattle.std.proofs.Common.{length}
 use Rattle.machine.specs.Holding.{kept_of}
 use Rattle.machine.specs.Kept.{pure_of}
 use Rattle.machine.proofs.Families.{insn_at, stays_inside, step_taken}
-use Rattle.machine.proofs.Sound.{closed-runnable}
+use Rattle.machine.proofs.Closed.{closed-runnable}
 use Rattle.machine.proofs.state.State.step.Goals as goal
 
 pub run_insn-requires-clause-runnable : goal.run_insn-requires-clause-runnable

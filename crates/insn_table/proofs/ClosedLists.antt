@@ -1,8 +1,8 @@
--- Functions of tests: instructions of the table that go to places of the function, with a return behind them.
+-- A list of instructions of the table that go to places of the list, with one behind them that leaves, is closed.
 use Rattle.std.proofs.Common.{◌≡◌, ℕ, zero, suc, ◌+◌, ◌-◌, ◌<◌, ◌^◌, List, [], ◌∷◌, ◌++◌, length, slice_get, Some, refl, sym, ◌∙◌, ap, subst, length-append, arith}
 use Rattle.std.specs.List.{AllByRecursion}
 use Rattle.insn_table.specs.declared.insn.Insn.{Insn}
-use Rattle.insn_table.specs.Sound.{IsClosed, IsInside, IsLeaving}
+use Rattle.insn_table.specs.Closed.{IsClosed, IsInside, IsLeaving}
 use Rattle.insn_table.specs.Table.{IsTableInsn}
 
 each_at : (P : Insn → Type 0) (insns : List Insn) (k : ℕ) (i : Insn) → AllByRecursion P insns → slice_get insns k ≡ Some i → P i
