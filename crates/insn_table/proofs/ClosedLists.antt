@@ -18,21 +18,29 @@ last_at : (body : List Insn) (last : Insn) → slice_get (body ++ last ∷ []) (
 last_at [] last = refl
 last_at (m ∷ ms) last = last_at ms last
 
+-- a list of n instructions of the table that go to places of the list, of which the last one leaves, is closed
+pub closed_list : (insns : List Insn) (n : ℕ) → length insns ≡ n → 0 < n → n < 2 ^ 32
+    → AllByRecursion IsTableInsn insns → AllByRecursion (λ i. AllByRecursion (IsInside n) i.args) insns
+    → ((i : Insn) → slice_get insns (n - 1) ≡ Some i → IsLeaving i.op) → IsClosed insns
+closed_list insns n size some few each inside leaves = record {
+  some = omega (arith, size, some);
+  few = omega (arith, size, few);
+  each = λ k i h. each_at IsTableInsn insns k i each h;
+  targets = λ k i h.
+      subst (λ (m : ℕ). AllByRecursion (IsInside m) i.args) (sym size) (each_at (λ j. AllByRecursion (IsInside n) j.args) insns k i inside h);
+  last = λ i h. leaves i (ap (λ (m : ℕ). slice_get insns (m - 1)) (sym size) ∙ h);
+}
+
+-- the same of a list with one instruction behind it, which leaves
 pub closed_by : (body : List Insn) (last : Insn) (n : ℕ) → length body + 1 ≡ n → n < 2 ^ 32
     → AllByRecursion IsTableInsn body → AllByRecursion (λ i. AllByRecursion (IsInside n) i.args) body
     → IsTableInsn last → AllByRecursion (IsInside n) last.args → IsLeaving last.op → IsClosed (body ++ last ∷ [])
 closed_by body last n size few each inside end end_inside leaves =
     let count : length (body ++ last ∷ []) ≡ n = length-append body (last ∷ []) ∙ size in
-    record {
-      some = omega (arith, count, size);
-      few = omega (arith, count, few);
-      each = λ k i h. each_at IsTableInsn (body ++ last ∷ []) k i (with_last IsTableInsn body last each end) h;
-      targets = λ k i h.
-          subst (λ (m : ℕ). AllByRecursion (IsInside m) i.args) (sym count)
-          (each_at (λ j. AllByRecursion (IsInside n) j.args) (body ++ last ∷ []) k i (with_last (λ j. AllByRecursion (IsInside n) j.args) body last inside end_inside) h);
-      last = λ i h.
-          let there : length (body ++ last ∷ []) - 1 ≡ length body = omega (arith, count, size) in
-          let found : Some last ≡ Some i = sym (last_at body last) ∙ ap (slice_get (body ++ last ∷ [])) (sym there) ∙ h in
-          let same : last ≡ i = cc in
-          subst (λ (x : Insn). IsLeaving x.op) same leaves;
-    }
+    closed_list (body ++ last ∷ []) n count (omega (arith, size)) few (with_last IsTableInsn body last each end)
+    (with_last (λ i. AllByRecursion (IsInside n) i.args) body last inside end_inside)
+    (λ i h.
+    let there : length body ≡ n - 1 = omega (arith, size) in
+    let found : Some last ≡ Some i = sym (last_at body last) ∙ ap (slice_get (body ++ last ∷ [])) there ∙ h in
+    let same : last ≡ i = cc in
+    subst (λ (x : Insn). IsLeaving x.op) same leaves)

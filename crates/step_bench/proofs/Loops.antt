@@ -1,5 +1,5 @@
--- Four instructions of the table, of which the last is a jump, are a closed function.
-use Rattle.std.proofs.Common.{◌≡◌, ℕ, zero, suc, ◌-◌, Bool, true, false, ◌&&◌, List, [], ◌∷◌, length, get_or, slice_get, Some, sym, ◌∙◌, subst, ap, if◌then◌else◌, arith}
+-- What an instruction keeps of the operands that it is made of, and that a jump leaves.
+use Rattle.std.proofs.Common.{◌≡◌, ℕ, Bool, true, false, ◌&&◌, List, [], ◌∷◌, get_or, slice_get, Some, sym, ◌∙◌, subst, ap, if◌then◌else◌}
 use Rattle.std.proofs.lemmas.Option.{get_or_from_slice_get}
 use Rattle.std.specs.List.{AllByRecursion}
 use Rattle.align_base.specs.declared.op.Op.{Op}
@@ -9,8 +9,7 @@ use Rattle.insn_table.specs.declared.insn.Operand.{Operand}
 use Rattle.insn_table.specs.declared.insn.Operand.TheVariants.{Imm}
 use Rattle.insn_table.specs.declared.shape.Shape.{Shape}
 use Rattle.insn_table.specs.Forms.{completed, counted_once, insn_of, is_lone, is_shift}
-use Rattle.insn_table.specs.Sound.{IsClosed, IsInside, IsLeaving}
-use Rattle.insn_table.specs.Table.{IsTableInsn}
+use Rattle.insn_table.specs.Closed.{IsLeaving}
 
 counted-keeps : (P : Operand → Type 0) (args : List Operand) → P (Imm 1) → AllByRecursion P args → AllByRecursion P (counted_once args)
 counted-keeps P [] one all = all
@@ -36,18 +35,3 @@ pub jump_leaves : (insns : List Insn) (k : ℕ) (d i : Insn) → (get_or insns k
 jump_leaves insns k d i jump at =
     let same : i.op ≡ Jmp = sym (ap (λ (j : Insn). j.op) (get_or_from_slice_get insns k i d at)) ∙ jump in
     subst IsLeaving (sym same) tt
-
-each_at : (P : Insn → Type 0) (insns : List Insn) → AllByRecursion P insns → (k : ℕ) (i : Insn) → slice_get insns k ≡ Some i → P i
-each_at P [] all k i at = absurd (cc)
-each_at P (j ∷ js) all zero i at = let same : j ≡ i = cc in subst P same all.0
-each_at P (j ∷ js) all (suc k) i at = each_at P js all.1 k i at
-
-pub closed_by : (insns : List Insn) → length insns ≡ 4 → AllByRecursion IsTableInsn insns → AllByRecursion (λ i. AllByRecursion (IsInside 4) i.args) insns
-    → ((i : Insn) → slice_get insns 3 ≡ Some i → IsLeaving i.op) → IsClosed insns
-closed_by insns four table inside last = record {
-  some = omega arith;
-  few = omega arith;
-  each = each_at IsTableInsn insns table;
-  targets = λ k i at. subst (λ n. AllByRecursion (IsInside n) i.args) (sym four) (each_at (λ i. AllByRecursion (IsInside 4) i.args) insns inside k i at);
-  last = λ i at. last i (ap (λ n. slice_get insns (n - 1)) (sym four) ∙ at);
-}

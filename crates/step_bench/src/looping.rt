@@ -1,7 +1,7 @@
 //! The loop that is run.
 ghost use Rattle.std.specs.Prelude.{◌≡◌, ◌<◌, [], ◌∷◌, IfOk, length};
 ghost use Rattle.std.specs.List.{AllByRecursion};
-ghost use Rattle.insn_table.specs.Sound.{IsClosed, IsInside, IsLeaving};
+ghost use Rattle.insn_table.specs.Closed.{IsClosed, IsInside, IsLeaving};
 ghost use Rattle.insn_table.specs.Table.{HasRegisters, IsTableInsn};
 
 use align_base::Word;

@@ -1,6 +1,6 @@
 use Rattle.std.proofs.Common.{[], ◌∷◌, sym, ◌∙◌}
 use Rattle.insn_table.specs.declared.insn.Operand.TheVariants.{Nothing}
-use Rattle.insn_table.specs.Sound.{IsInside}
+use Rattle.insn_table.specs.Closed.{IsInside}
 use Rattle.insn_table.specs.Table.{HasRegisters}
 use Rattle.step_bench.proofs.Loops.{fitted-keeps}
 use Rattle.step_bench.proofs.looping.insn.Goals as goal
