@@ -10,7 +10,7 @@ use Rattle.insn_table.specs.declared.insn.Operand.TheVariants.{Imm, Nothing}
 use Rattle.insn_table.specs.declared.forms.Class.{Class}
 use Rattle.insn_table.specs.declared.forms.Class.TheVariants.{Register, Readable, Immediate, Absent}
 use Rattle.insn_table.specs.Forms.{Form, two, three, forms, has_wide_form, takes_kind, takes}
-use Rattle.insn_table.proofs.TableInsns.{both_true}
+use Rattle.insn_table.proofs.Bools.{both_true}
 
 one_of_one : (b : Bool) → 0 + cond b 1 0 ≤ 1
 one_of_one true = omega arith

@@ -2,5 +2,6 @@ pub mod Rows
 pub mod Judging
 pub mod TableInsns
 pub mod Apart
+pub mod Bools
 pub mod ClosedLists
 pub mod Closing

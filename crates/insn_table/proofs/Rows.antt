@@ -1,9 +1,9 @@
 -- Looking a word up in rows that stand group after group, and that no word stands twice.
-use Rattle.std.proofs.Common.{◌≡◌, ℕ, zero, suc, true, false, List, [], ◌∷◌, ◌++◌, Bool, ◌&&◌, if◌then◌else◌, Some, None, refl, sym, ap, ◌∙◌, subst, arith}
+use Rattle.std.proofs.Common.{◌≡◌, ℕ, zero, suc, true, false, List, [], ◌∷◌, ◌++◌, Bool, if◌then◌else◌, Some, None, refl, sym, ap, ◌∙◌, subst, arith}
 use Rattle.std.specs.Prelude.{slice_get}
 use Rattle.std.specs.declared.cmp.Ordering.{Ordering}
 use Rattle.std.specs.declared.cmp.Ordering.TheVariants.{Less, Equal, Greater}
-use Rattle.std.proofs.lemmas.Option.{slice_get_within}
+use Rattle.std.proofs.lemmas.Option.{same_Some, slice_get_within}
 use Rattle.std.specs.Ordering.{nat_cmp, is_lt, is_eq}
 use Rattle.std.specs.Str.{bytes_eq}
 use Rattle.std.specs.Cmp.Lexicographic.{slice_cmp}
@@ -13,6 +13,7 @@ use Rattle.std.proofs.lemmas.Map.Text.{is_eq-slice_cmp}
 use Rattle.std.proofs.lemmas.Slice.Eq.{bytes_eq-Decides}
 use Rattle.std.specs.Bool.{Decides}
 use Rattle.insn_table.specs.declared.shape.Shape.{Shape}
+use Rattle.insn_table.proofs.Bools.{both_true}
 use Rattle.insn_table.specs.Spellings.{Row, named, in_order_after, in_order, general_rows, add_to_cltq, cmova_to_cmovnc, cmovne_to_cmovz, cmp_to_lea, mov_to_sar, set_rows, shl_to_xor, IsRowOf}
 
 -- a word that the first rows name is named so by all
@@ -33,19 +34,12 @@ less-from_test Less h = refl
 less-from_test Equal h = cc
 less-from_test Greater h = cc
 
-both_true : (a b : Bool) → (a && b) ≡ true → (a ≡ true) × (b ≡ true)
-both_true true b h = (refl, h)
-both_true false b h = cc
-
-some_same : {X : Type 0} (x y : X) → Some x ≡ Some y → x ≡ y
-some_same x y h = cc
-
 -- what stands behind a word, in order, is greater than it
 greater-behind : (word : List ℕ) (rows : List Row) (j : ℕ) (other : Row) → in_order_after word rows ≡ true → slice_get rows j ≡ Some other → slice_cmp nat_cmp word other.0 ≡ Less
 greater-behind word [] j other o h = absurd (omega (arith, slice_get_within [] j other h))
 greater-behind word (row ∷ rows) zero other o h =
     let first = less-from_test (slice_cmp nat_cmp word row.0) (both_true _ _ o).0 in
-    subst (λ (x : Row). slice_cmp nat_cmp word x.0 ≡ Less) (some_same row other h) first
+    subst (λ (x : Row). slice_cmp nat_cmp word x.0 ≡ Less) (same_Some row other h) first
 greater-behind word (row ∷ rows) (suc j) other o h =
     let first = less-from_test (slice_cmp nat_cmp word row.0) (both_true _ _ o).0 in
     nat_list_cmp_total.trans word row.0 other.0 first (greater-behind row.0 rows j other (both_true _ _ o).1 h)
@@ -67,10 +61,10 @@ same-place [] i j row other o h k e = absurd (omega (arith, slice_get_within [] 
 same-place (first ∷ rows) zero zero row other o h k e = refl
 same-place (first ∷ rows) zero (suc j) row other o h k e =
     let less = greater-behind first.0 rows j other o k in
-    absurd (not_less first.0 other.0 less (ap (λ (x : Row). x.0) (some_same first row h) ∙ e))
+    absurd (not_less first.0 other.0 less (ap (λ (x : Row). x.0) (same_Some first row h) ∙ e))
 same-place (first ∷ rows) (suc i) zero row other o h k e =
     let less = greater-behind first.0 rows i row o h in
-    absurd (not_less first.0 row.0 less (ap (λ (x : Row). x.0) (some_same first other k) ∙ sym e))
+    absurd (not_less first.0 row.0 less (ap (λ (x : Row). x.0) (same_Some first other k) ∙ sym e))
 same-place (first ∷ rows) (suc i) (suc j) row other o h k e =
     ap (λ (n : ℕ). suc n) (same-place rows i j row other (order-rest first rows o) h k e)
 
@@ -79,7 +73,7 @@ row-named : (rows : List Row) (k : ℕ) (row : Row) → in_order rows ≡ true �
 row-named [] k row o h = absurd (omega (arith, slice_get_within [] k row h))
 row-named (first ∷ rows) zero row o h =
     let here : bytes_eq first.0 first.0 ≡ true = sym (is_eq-slice_cmp first.0 first.0) ∙ ap is_eq (tied_itself nat_list_cmp_total first.0) in
-    subst (λ (x : Row). named (first ∷ rows) x.0 ≡ Some x.1) (some_same first row h) (rw here refl)
+    subst (λ (x : Row). named (first ∷ rows) x.0 ≡ Some x.1) (same_Some first row h) (rw here refl)
 row-named (first ∷ rows) (suc k) row o h =
     let less = greater-behind first.0 rows k row o h in
     let apart : bytes_eq first.0 row.0 ≡ false = sym (is_eq-slice_cmp first.0 row.0) ∙ ap is_eq less in
@@ -89,7 +83,7 @@ row-named (first ∷ rows) (suc k) row o h =
 named-here : (row : Row) (rows : List Row) (word : List ℕ) (shape : Shape) (b : Bool) → Decides b (row.0 ≡ word)
     → ((named rows word ≡ Some shape) → IsRowOf rows word shape) → (if b then Some row.1 else named rows word) ≡ Some shape → IsRowOf (row ∷ rows) word shape
 named-here row rows word shape true d next h =
-    record { place = 0; there = ap (λ (x : Row). Some x) (λ i. (d.0 refl i, some_same row.1 shape h i)) }
+    record { place = 0; there = ap (λ (x : Row). Some x) (λ i. (d.0 refl i, same_Some row.1 shape h i)) }
 named-here row rows word shape false d next h =
     let found = next h in record { place = suc found.place; there = found.there }
 

@@ -2,7 +2,7 @@
 use Rattle.std.proofs.Common.{◌≡◌, ℕ, zero, suc, Bool, true, false, ◌&&◌, ◌||◌, not, ◌==◌, if◌then◌else◌, List, [], ◌∷◌, ◌++◌, Option, Some, None, Ok, Err, codes, refl, sym, ap, ◌∙◌, subst, arith, ◌⊎◌, inl, inr, ⊎_elim}
 use Rattle.std.specs.Prelude.{slice_get}
 use Rattle.std.specs.List.{find, list_all, AllByRecursion}
-use Rattle.std.proofs.lemmas.Option.{slice_get_within}
+use Rattle.std.proofs.lemmas.Option.{same_Some, slice_get_within}
 use Rattle.std.proofs.lemmas.Bool.Decides.{Decides-eqb}
 use Rattle.align_base.specs.declared.op.Cond.{Cond}
 use Rattle.align_base.specs.declared.op.Cond.TheVariants.{E, Ne, B, Ae, Be, A, L, Ge, Le, G, S, Ns, O, No, P, Np}
@@ -16,6 +16,7 @@ use Rattle.insn_table.specs.declared.fitting.Misfit.TheVariants.{BadNumber}
 use Rattle.insn_table.specs.Spellings.{Row, general, named, IsRowOf, general_rows, add_to_cltq, cmova_to_cmovnc, cmovne_to_cmovz, cmp_to_lea, mov_to_sar, set_rows, shl_to_xor}
 use Rattle.insn_table.specs.Forms.{Form, forms, has_wide_form, takes, numbers_fit, is_shift, is_lone, counted_once, completed, width_of, insn_of, form_of, judged_by, fits_of}
 use Rattle.insn_table.specs.Table.{shape_of, HasRegisters, IsTableInsn}
+use Rattle.insn_table.proofs.Bools.{both_true, either_true}
 use Rattle.insn_table.proofs.Rows.{rows-named, named-row}
 
 -- A row without a width is that of a move by condition, and none is that of a VEX form.
@@ -30,25 +31,14 @@ usual_rows : list_all is_usual general_rows ≡ true
 unfolding general_rows add_to_cltq cmova_to_cmovnc cmovne_to_cmovz cmp_to_lea mov_to_sar set_rows shl_to_xor is_usual
 usual_rows = refl
 
-pub both_true : (a b : Bool) → (a && b) ≡ true → (a ≡ true) × (b ≡ true)
-both_true true b h = (refl, h)
-both_true false b h = cc
-
-pub either_true : (a b : Bool) → (a || b) ≡ true → (a ≡ true) ⊎ (b ≡ true)
-either_true true b h = inl refl
-either_true false b h = inr h
-
 not-true : (b : Bool) → not b ≡ true → b ≡ false
 not-true true h = cc
 not-true false h = refl
 
-some_same : {X : Type 0} (x y : X) → Some x ≡ Some y → x ≡ y
-some_same x y h = cc
-
 -- a test that all pass is passed by each
 pub passed_at : {X : Type 0} (p : X → Bool) (xs : List X) (k : ℕ) (x : X) → list_all p xs ≡ true → slice_get xs k ≡ Some x → p x ≡ true
 passed_at p [] k x all there = absurd (omega (arith, slice_get_within [] k x there))
-passed_at p (y ∷ ys) zero x all there = subst (λ z. p z ≡ true) (some_same y x there) (both_true _ _ all).0
+passed_at p (y ∷ ys) zero x all there = subst (λ z. p z ≡ true) (same_Some y x there) (both_true _ _ all).0
 passed_at p (y ∷ ys) (suc k) x all there = passed_at p ys k x (both_true _ _ all).1 there
 
 unfoldable IsUsual : Shape → Type 0

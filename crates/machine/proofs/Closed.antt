@@ -15,7 +15,8 @@ use Rattle.insn_table.specs.Forms.{Form, forms, form_of, insn_of, is_target, num
 use Rattle.insn_table.specs.Closed.{IsClosed, IsInside}
 use Rattle.insn_table.specs.Spellings.{Row, general_rows, add_to_cltq, cmova_to_cmovnc, cmovne_to_cmovz, cmp_to_lea, mov_to_sar, set_rows, shl_to_xor}
 use Rattle.insn_table.specs.Table.{HasRegisters, IsTableInsn, shape_of}
-use Rattle.insn_table.proofs.TableInsns.{both_true, either_true, form-wide, judged-ok, passed_at, wide-cases}
+use Rattle.insn_table.proofs.Bools.{both_true, either_true}
+use Rattle.insn_table.proofs.TableInsns.{form-wide, judged-ok, passed_at, wide-cases}
 use Rattle.machine.specs.Access.{arity}
 use Rattle.machine.specs.Operands.{operand}
 use Rattle.machine.specs.Runnable.{HasCount, HasNumbers, HasRowOf, IsNumber, IsRegister, IsRunnable, IsRunnableFunction, IsWidth, JumpsBelow}

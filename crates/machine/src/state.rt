@@ -114,6 +114,7 @@ impl State {
         ensures kept { result ≡ kept_start regs vecs spans.items regions.items stack }
         ensures start { IsStart (pure_of result) }
     {
+        // what the types say of the values
         are_regs(&regs);
         are_vecs(&vecs);
         spans_hold_bytes(&spans);
