@@ -11,8 +11,7 @@ use Rattle.insn_table.specs.declared.insn.Operand.{Operand}
 use Rattle.insn_table.specs.declared.insn.Operand.TheVariants.{Reg, Imm, Mem, Vec, Pool, Target, Nothing}
 use Rattle.machine.specs.declared.state.Region.{Region}
 use Rattle.insn_table.specs.Forms.{is_nothing}
-use Rattle.machine.specs.Access.{Access, access_at, access_of, arity, holds_access, is_allowed, is_on_stack, writes}
-use Rattle.machine.specs.Family.{passes_accesses}
+use Rattle.machine.specs.Access.{Access, access_at, access_of, arity, holds_access, is_allowed, is_on_stack, operand_accesses, writes}
 use Rattle.machine.specs.Kept.{IsKept, IsRegion, Kept, is_spanned, pure_of}
 use Rattle.machine.specs.Machine.{Machine, offset_from, stack_base}
 use Rattle.machine.specs.Operands.{effective, operand}
@@ -130,7 +129,7 @@ target_by ops.Cltq i k h = tt
 target_by _ i k h = h
 
 -- what a row writes is spanned, where its tests hold
-pub target_spanned : (i : Insn) (k : Kept) → IsKept k → passes_accesses i (pure_of k) ≡ true → writes i.op ≡ true → IsSpanned k i.w (target_of i.op i)
+pub target_spanned : (i : Insn) (k : Kept) → IsKept k → list_all (is_allowed (pure_of k)) (operand_accesses i (pure_of k)) ≡ true → writes i.op ≡ true → IsSpanned k i.w (target_of i.op i)
 target_spanned i k h passes w =
     let all = three_true (is_allowed (pure_of k)) (access_at i (pure_of k) 0) (access_at i (pure_of k) 1) (access_at i (pure_of k) 2) passes in
     target_by i.op i k (last_by i k (is_nothing (operand i 0)) (is_nothing (operand i 1)) (is_nothing (operand i 2)) refl refl refl h w all.0 all.1 all.2)

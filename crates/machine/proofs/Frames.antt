@@ -11,16 +11,18 @@ use Rattle.insn_table.specs.declared.insn.Operand.TheVariants.{Reg, Imm, Mem, Ve
 use Rattle.insn_table.specs.Forms.{is_addressed, is_nothing}
 use Rattle.insn_table.specs.Closed.{IsClosed}
 use Rattle.insn_table.specs.Table.{IsTableInsn}
-use Rattle.instruction_semantics.specs.Conditions.{cond_of}
 use Rattle.instruction_semantics.specs.Words.{bit}
-use Rattle.machine.specs.Access.{Access, access_at, access_of, accesses_by, allows_by, arity, holds_access, is_allowed, is_on_stack, source_width, stack_pointer, writes}
+use Rattle.machine.specs.declared.operands.Family.{Family}
+use Rattle.machine.specs.declared.operands.Family.TheVariants.{Branch, Choice, Idle, Jump, Popping, Pushing, Return, Setting}
+use Rattle.machine.specs.Access.{Access, access_at, access_of, accesses, allows, allows_by, arity, holds_access, is_allowed, is_on_stack, operand_accesses, source_width, stack_pointer, writes}
+use Rattle.machine.specs.Family.{family_of, holds_of}
 use Rattle.machine.specs.Frame.{IsWritable, SameFrame, SameUnwritable, has_address, is_writable}
 use Rattle.machine.specs.Machine.{Machine, offset_from, stack_base}
 use Rattle.machine.specs.Memory.{with_word}
 use Rattle.machine.specs.Operands.{effective, operand, with_value}
 use Rattle.machine.specs.Run.{Step, Goes, Returns, Faults, MeetsUnset, run_of}
 use Rattle.machine.specs.Runnable.{IsRegister}
-use Rattle.machine.specs.Step.{after_row, allows_at, conditional, free_at, free_by, register_number, result_of, step_of, target_of, tested}
+use Rattle.machine.specs.Step.{after_row, allows_at, at_place, changed, conditional, free_at, free_insn, goes, gone, leads_to, register_number, result_of, step_of, target_of, tested}
 use Rattle.machine.specs.declared.state.Region.{Region}
 use Rattle.machine.proofs.Runs.{run_keeps}
 use Rattle.machine.proofs.Closed.{lea_register}
@@ -39,9 +41,20 @@ tested-leads P false Returns h = tt
 tested-leads P false Faults h = tt
 tested-leads P false MeetsUnset h = tt
 
-pub conditional-leads : (P : Machine → Type 0) (o : Option Bool) (goes : Bool → Step Machine) → ((b : Bool) → LeadsTo P (goes b)) → LeadsTo P (conditional o goes)
+conditional-leads : (P : Machine → Type 0) (o : Option Bool) (goes : Bool → Step Machine) → ((b : Bool) → LeadsTo P (goes b)) → LeadsTo P (conditional o goes)
 conditional-leads P None goes h = tt
 conditional-leads P (Some b) goes h = h b
+
+gone-leads : (P : Machine → Type 0) (next : Option ℕ) (t : Machine) → ((place : ℕ) → P (at_place t place)) → LeadsTo P (gone next t)
+gone-leads P None t h = tt
+gone-leads P (Some place) t h = h place
+
+-- what holds of each changed state, at whatever place, holds of the next state
+pub free-leads : (P : Machine → Type 0) (pool : List ℕ) (i : Insn) (s : Machine)
+    → ((holds : Bool) (place : ℕ) → P (at_place (changed (family_of i.op) pool i s holds) place)) → LeadsTo P (free_insn pool i s)
+free-leads P pool i s h =
+    conditional-leads P (holds_of i.op s.flags) (goes (family_of i.op) pool i s)
+    (λ holds. gone-leads P (leads_to (family_of i.op) i s.place holds) (changed (family_of i.op) pool i s holds) (h holds))
 
 -- the frame
 
@@ -65,22 +78,24 @@ row-frame pool i s cond =
     in
     record { entry = h.entry; regions = h.regions; stack = h.stack; vecs = h.vecs }
 
-free-frame : (pool : List ℕ) (o : Op) (i : Insn) (s : Machine) → LeadsTo (SameFrame s) (free_by pool o i s)
-free-frame pool (ops.Cmov c) i s = conditional-leads (SameFrame s) (cond_of c s.flags) _ (λ b. row-frame pool i s (bit b))
-free-frame pool (ops.Set c) i s = conditional-leads (SameFrame s) (cond_of c s.flags) _ (λ b. row-frame pool i s (bit b))
-free-frame pool (ops.Jump c) i s =
-    conditional-leads (SameFrame s) (cond_of c s.flags) _ (λ b. record { entry = refl; regions = refl; stack = refl; vecs = refl })
-free-frame pool ops.Jmp i s = record { entry = refl; regions = refl; stack = refl; vecs = refl }
-free-frame pool ops.Push i s = record { entry = refl; regions = refl; stack = refl; vecs = refl }
-free-frame pool ops.Pop i s = record { entry = refl; regions = refl; stack = refl; vecs = refl }
-free-frame pool ops.Ret i s = tt
-free-frame pool ops.Nop i s = record { entry = refl; regions = refl; stack = refl; vecs = refl }
-free-frame pool ops.Endbr64 i s = record { entry = refl; regions = refl; stack = refl; vecs = refl }
-free-frame pool _ i s = row-frame pool i s 0
+changed-frame : (kind : Family) (pool : List ℕ) (i : Insn) (s : Machine) (holds : Bool) → SameFrame s (changed kind pool i s holds)
+changed-frame Pushing pool i s holds = record { entry = refl; regions = refl; stack = refl; vecs = refl }
+changed-frame Popping pool i s holds = record { entry = refl; regions = refl; stack = refl; vecs = refl }
+changed-frame Branch pool i s holds = record { entry = refl; regions = refl; stack = refl; vecs = refl }
+changed-frame Jump pool i s holds = record { entry = refl; regions = refl; stack = refl; vecs = refl }
+changed-frame Return pool i s holds = record { entry = refl; regions = refl; stack = refl; vecs = refl }
+changed-frame Idle pool i s holds = record { entry = refl; regions = refl; stack = refl; vecs = refl }
+changed-frame Choice pool i s holds = row-frame pool i s (bit holds)
+changed-frame Setting pool i s holds = row-frame pool i s (bit holds)
+changed-frame _ pool i s holds = row-frame pool i s 0
+
+free-frame : (pool : List ℕ) (i : Insn) (s : Machine) → LeadsTo (SameFrame s) (free_insn pool i s)
+free-frame pool i s = free-leads (SameFrame s) pool i s
+    (λ holds place. let h = changed-frame (family_of i.op) pool i s holds in record { entry = h.entry; regions = h.regions; stack = h.stack; vecs = h.vecs })
 
 at-frame : (pool : List ℕ) (o : Option Insn) (s : Machine) → LeadsTo (SameFrame s) (tested (allows_at o s) (free_at pool o s))
 at-frame pool None s = tt
-at-frame pool (Some i) s = tested-leads (SameFrame s) (allows_at (Some i) s) (free_by pool i.op i s) (λ holds. free-frame pool i.op i s)
+at-frame pool (Some i) s = tested-leads (SameFrame s) (allows i s) (free_insn pool i s) (λ holds. free-frame pool i s)
 
 -- A step changes registers, flags, memory and place alone.
 pub step_frame : (insns : List Insn) (pool : List ℕ) (s t : Machine) → step_of insns pool s ≡ Goes t → SameFrame s t
@@ -202,7 +217,7 @@ all-three p xs ys zs h =
     let one = and_parts (list_all p xs) (list_all p ys) (sym (list_all-append p xs ys) ∙ two.0) in
     (one.0, one.1, two.1)
 
-written-allowed : (i : Insn) (s : Machine) → writes i.op ≡ true → list_all (is_allowed s) (access_at i s 0 ++ access_at i s 1 ++ access_at i s 2) ≡ true
+written-allowed : (i : Insn) (s : Machine) → writes i.op ≡ true → list_all (is_allowed s) (operand_accesses i s) ≡ true
     → list_all (is_allowed s) (access_of s (operand i (arity i - 1)) i.w true) ≡ true
 written-allowed i s writing h =
     let each = all-three (is_allowed s) (access_at i s 0) (access_at i s 1) (access_at i s 2) h in
@@ -211,8 +226,9 @@ written-allowed i s writing h =
     in
     last-allowed i s (is_nothing (operand i 0)) (is_nothing (operand i 1)) (is_nothing (operand i 2)) refl (with_k 0 each.0) (with_k 1 each.1) (with_k 2 each.2)
 
+-- what a row writes may be written, where its accesses are allowed and `lea` writes no memory
 target-allowed : (o : Op) (i : Insn) (s : Machine) → writes i.op ≡ true → (o ≡ ops.Lea → is_addressed (target_of ops.Lea i) ≡ false)
-    → list_all (is_allowed s) (accesses_by o i s) ≡ true → list_all (is_allowed s) (access_of s (target_of o i) i.w true) ≡ true
+    → list_all (is_allowed s) (accesses (family_of o) i s) ≡ true → list_all (is_allowed s) (access_of s (target_of o i) i.w true) ≡ true
 target-allowed ops.Cltq i s writing lea h = refl
 target-allowed ops.Lea i s writing lea h = no-access s i.w (target_of ops.Lea i) (lea refl)
 target-allowed _ i s writing lea h = written-allowed i s writing h
@@ -221,7 +237,7 @@ choice-kept : (b : Bool) (s t : Machine) → (b ≡ true → SameUnwritable s t)
 choice-kept true s t h = h refl
 choice-kept false s t h = λ x. inl refl
 
-row-kept : (pool : List ℕ) (i : Insn) (s : Machine) (cond : ℕ) → IsTested i → list_all (is_allowed s) (accesses_by i.op i s) ≡ true
+row-kept : (pool : List ℕ) (i : Insn) (s : Machine) (cond : ℕ) → IsTested i → list_all (is_allowed s) (accesses (family_of i.op) i s) ≡ true
     → SameUnwritable s (after_row pool i s cond)
 row-kept pool i s cond lea h =
     choice-kept (writes i.op) s (with_value i.w s (target_of i.op i) (result_of pool i s cond))
@@ -237,23 +253,24 @@ push-kept s word h x =
     or_right (list_any (λ r. r.write && has_address x r) s.regions) (nat_lt (offset_from (stack_base s) x) s.stack)
     (tests-inside (2 ^ 64 - stack_base s) at 8 s.stack x below h k))
 
-free-kept : (pool : List ℕ) (o : Op) (i : Insn) (s : Machine) → IsTested i → allows_by o i s ≡ true → LeadsTo (SameUnwritable s) (free_by pool o i s)
-free-kept pool (ops.Cmov c) i s lea h = conditional-leads (SameUnwritable s) (cond_of c s.flags) _ (λ b. row-kept pool i s (bit b) lea h)
-free-kept pool (ops.Set c) i s lea h = conditional-leads (SameUnwritable s) (cond_of c s.flags) _ (λ b. row-kept pool i s (bit b) lea h)
-free-kept pool (ops.Jump c) i s lea h = conditional-leads (SameUnwritable s) (cond_of c s.flags) _ (λ b x. inl refl)
-free-kept pool ops.Jmp i s lea h = λ x. inl refl
-free-kept pool ops.Push i s lea h = push-kept s (slice_index s.regs (register_number (operand i 0))) h
-free-kept pool ops.Pop i s lea h = λ x. inl refl
-free-kept pool ops.Ret i s lea h = tt
-free-kept pool ops.Nop i s lea h = λ x. inl refl
-free-kept pool ops.Endbr64 i s lea h = λ x. inl refl
-free-kept pool _ i s lea h = row-kept pool i s 0 lea h
+changed-kept : (kind : Family) (pool : List ℕ) (i : Insn) (s : Machine) (holds : Bool) → family_of i.op ≡ kind → IsTested i → allows_by kind i s ≡ true
+    → SameUnwritable s (changed kind pool i s holds)
+changed-kept Pushing pool i s holds f lea h = push-kept s (slice_index s.regs (register_number (operand i 0))) h
+changed-kept Popping pool i s holds f lea h = λ x. inl refl
+changed-kept Branch pool i s holds f lea h = λ x. inl refl
+changed-kept Jump pool i s holds f lea h = λ x. inl refl
+changed-kept Return pool i s holds f lea h = λ x. inl refl
+changed-kept Idle pool i s holds f lea h = λ x. inl refl
+changed-kept Choice pool i s holds f lea h = row-kept pool i s (bit holds) lea (rw f h)
+changed-kept Setting pool i s holds f lea h = row-kept pool i s (bit holds) lea (rw f h)
+changed-kept _ pool i s holds f lea h = row-kept pool i s 0 lea (rw f h)
 
 at-kept : (pool : List ℕ) (o : Option Insn) (s : Machine) → ((i : Insn) → o ≡ Some i → IsTested i)
     → LeadsTo (SameUnwritable s) (tested (allows_at o s) (free_at pool o s))
 at-kept pool None s each = tt
 at-kept pool (Some i) s each =
-    tested-leads (SameUnwritable s) (allows_at (Some i) s) (free_by pool i.op i s) (λ holds. free-kept pool i.op i s (each i refl) holds)
+    tested-leads (SameUnwritable s) (allows i s) (free_insn pool i s)
+    (λ allowed. free-leads (SameUnwritable s) pool i s (λ holds place. changed-kept (family_of i.op) pool i s holds refl (each i refl) allowed))
 
 -- A step writes no byte but in a region that may be written and among the declared stack bytes.
 pub step_memory : (insns : List Insn) (pool : List ℕ) (s t : Machine) → IsClosed insns → step_of insns pool s ≡ Goes t → SameUnwritable s t

@@ -1,6 +1,6 @@
 -- What a plain move, sum or difference does to the whole state: the registers change as in the short form, the flags
 -- somehow, and the place is the next one.
-use Rattle.std.proofs.Common.{◌≡◌, ℕ, ◌+◌, ◌-◌, ◌^◌, ◌%◌, ◌<◌, Bool, List, [], ◌∷◌, slice_get, slice_index, slice_set, Option, Some, sym, ◌∙◌, ap, subst, arith}
+use Rattle.std.proofs.Common.{◌≡◌, ℕ, ◌+◌, ◌-◌, ◌^◌, ◌%◌, ◌<◌, Bool, List, [], ◌∷◌, slice_get, slice_index, slice_set, Some, sym, ◌∙◌, ap, subst, arith}
 use Rattle.align_base.specs.declared.op.Flags.{Flags}
 use Rattle.align_base.specs.declared.op.Op.{Op}
 use Rattle.align_base.specs.declared.op.Op.TheVariants.{Mov, Add, Sub}
@@ -9,11 +9,11 @@ use Rattle.insn_table.specs.declared.insn.Operand.{Operand}
 use Rattle.insn_table.specs.declared.insn.Operand.TheVariants.{Reg, Imm, Mem, Vec, Pool, Target, Nothing}
 use Rattle.insn_table.specs.Plain.{IsMoveOp, IsPlainMove, IsRegister, IsSource}
 use Rattle.instruction_semantics.specs.FlagRules.{flags_after}
-use Rattle.machine.specs.Access.{allows}
 use Rattle.machine.specs.Machine.{AreRegs, Machine}
 use Rattle.machine.specs.Run.{Step, Goes}
-use Rattle.machine.specs.Step.{allows_at, destination_value, free_at, free_by, source_value, step_of, tested}
+use Rattle.machine.specs.Step.{destination_value, insn_step, source_value, step_of}
 use Rattle.machine.specs.Straight.{regs_after}
+use Rattle.machine.proofs.Families.{step_at}
 use Rattle.machine.proofs.Keeping.{signed-below}
 
 -- the state after a plain move
@@ -41,12 +41,9 @@ sum-small a b h k = omega arith
 difference-small : (a b : ℕ) → a < 2 ^ 64 → b < 2 ^ 64 → (a % 2 ^ 64 + (2 ^ 64 - b % 2 ^ 64)) % 2 ^ 64 ≡ (a + (2 ^ 64 - b)) % 2 ^ 64
 difference-small a b h k = omega arith
 
-abbrev pub goes_by : List ℕ → Insn → Machine → Step Machine
-goes_by pool i s = tested (allows i s) (free_by pool i.op i s)
-
 -- from a register or an immediate below 2^64 to a register
 register-moves : (pool : List ℕ) (o : Op) (vex : Bool) (line n w m v : ℕ) (s : Machine) → IsMoveOp o → AreRegs s.regs
-    → goes_by pool (move_by o vex line (Reg n w) (Reg m v)) s ≡ Goes (moved pool (move_by o vex line (Reg n w) (Reg m v)) s)
+    → insn_step pool (move_by o vex line (Reg n w) (Reg m v)) s ≡ Goes (moved pool (move_by o vex line (Reg n w) (Reg m v)) s)
 register-moves pool Mov vex line n w m v s op all = ap (written_by s m _) (mod-small (slice_index s.regs n) (all.below n))
 register-moves pool Add vex line n w m v s op all =
     ap (written_by s m _) (sum-small (slice_index s.regs m) (slice_index s.regs n) (all.below m) (all.below n))
@@ -55,14 +52,14 @@ register-moves pool Sub vex line n w m v s op all =
 register-moves pool _ vex line n w m v s op all = absurd op
 
 immediate-moves : (pool : List ℕ) (o : Op) (vex : Bool) (line a m v : ℕ) (s : Machine) → IsMoveOp o → a < 2 ^ 64 → AreRegs s.regs
-    → goes_by pool (move_by o vex line (Imm a) (Reg m v)) s ≡ Goes (moved pool (move_by o vex line (Imm a) (Reg m v)) s)
+    → insn_step pool (move_by o vex line (Imm a) (Reg m v)) s ≡ Goes (moved pool (move_by o vex line (Imm a) (Reg m v)) s)
 immediate-moves pool Mov vex line a m v s op small all = ap (written_by s m _) (mod-small a small)
 immediate-moves pool Add vex line a m v s op small all = ap (written_by s m _) (sum-small (slice_index s.regs m) a (all.below m) small)
 immediate-moves pool Sub vex line a m v s op small all = ap (written_by s m _) (difference-small (slice_index s.regs m) a (all.below m) small)
 immediate-moves pool _ vex line a m v s op small all = absurd op
 
 source-moves : (pool : List ℕ) (o : Op) (vex : Bool) (line m v : ℕ) (source : Operand) (s : Machine) → IsMoveOp o → IsSource source → AreRegs s.regs
-    → goes_by pool (move_by o vex line source (Reg m v)) s ≡ Goes (moved pool (move_by o vex line source (Reg m v)) s)
+    → insn_step pool (move_by o vex line source (Reg m v)) s ≡ Goes (moved pool (move_by o vex line source (Reg m v)) s)
 source-moves pool o vex line m v (Reg n w) s op is all = register-moves pool o vex line n w m v s op all
 source-moves pool o vex line m v (Imm a) s op is all = immediate-moves pool o vex line a m v s op (signed-below a is) all
 source-moves pool o vex line m v (Mem base index scale disp) s op is all = absurd is
@@ -73,7 +70,7 @@ source-moves pool o vex line m v Nothing s op is all = absurd is
 
 target-moves : (pool : List ℕ) (o : Op) (vex : Bool) (line : ℕ) (source target : Operand) (s : Machine)
     → IsMoveOp o → IsSource source → IsRegister target → AreRegs s.regs
-    → goes_by pool (move_by o vex line source target) s ≡ Goes (moved pool (move_by o vex line source target) s)
+    → insn_step pool (move_by o vex line source target) s ≡ Goes (moved pool (move_by o vex line source target) s)
 target-moves pool o vex line source (Reg m v) s op is to all = source-moves pool o vex line m v source s op is all
 target-moves pool o vex line source (Imm a) s op is to all = absurd to
 target-moves pool o vex line source (Mem base index scale disp) s op is to all = absurd to
@@ -82,17 +79,13 @@ target-moves pool o vex line source (Pool n) s op is to all = absurd to
 target-moves pool o vex line source (Target n) s op is to all = absurd to
 target-moves pool o vex line source Nothing s op is to all = absurd to
 
-plain-moves : (pool : List ℕ) (i : Insn) (s : Machine) → IsPlainMove i → AreRegs s.regs → goes_by pool i s ≡ Goes (moved pool i s)
+plain-moves : (pool : List ℕ) (i : Insn) (s : Machine) → IsPlainMove i → AreRegs s.regs → insn_step pool i s ≡ Goes (moved pool i s)
 plain-moves pool i s m all =
     let parts : move_by i.op i.vex i.line m.source m.target ≡ i =
     λ j. record { op = i.op; w = sym m.move.width j; vex = i.vex; args = sym m.move.args j; line = i.line }
     in
-    subst (λ (x : Insn). goes_by pool x s ≡ Goes (moved pool x s)) parts
+    subst (λ (x : Insn). insn_step pool x s ≡ Goes (moved pool x s)) parts
     (target-moves pool i.op i.vex i.line m.source m.target s m.op m.move.reads m.move.writes all)
-
--- the step at a known instruction
-pub step_at : (insns : List Insn) (pool : List ℕ) (s : Machine) (i : Insn) → slice_get insns s.place ≡ Some i → step_of insns pool s ≡ goes_by pool i s
-step_at insns pool s i h = ap (λ (o : Option Insn). tested (allows_at o s) (free_at pool o s)) h
 
 -- The step at a plain move.
 pub step_moves : (insns : List Insn) (pool : List ℕ) (s : Machine) (i : Insn) → slice_get insns s.place ≡ Some i → IsPlainMove i → AreRegs s.regs

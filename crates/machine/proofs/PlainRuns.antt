@@ -8,15 +8,17 @@ use Rattle.insn_table.specs.declared.insn.Operand.TheVariants.{Reg, Imm, Mem, Ve
 use Rattle.insn_table.specs.declared.insn.Insn.{Insn}
 use Rattle.insn_table.specs.Plain.{IsFree, IsPlainMove, IsRegister, IsReturn}
 use Rattle.machine.specs.Access.{allows_by, stack_pointer}
+use Rattle.machine.specs.Family.{family_of, holds_of}
 use Rattle.machine.specs.Frame.{SameFrame}
 use Rattle.machine.specs.Machine.{AreRegs, IsPlainStart, Machine, entry_pointer}
 use Rattle.machine.specs.Operands.{operand}
 use Rattle.machine.specs.Run.{Goes, Returns, run_of}
-use Rattle.machine.specs.Step.{free_by, step_of, tested}
+use Rattle.machine.specs.Step.{conditional, goes, step_of, tested}
 use Rattle.machine.specs.Straight.{computed, regs_after, regs_through, value_at, written}
 use Rattle.machine.specs.declared.state.RunEnd.TheVariants.{Returned, Running}
 use Rattle.machine.proofs.Keeping.{move_keeps_regs}
-use Rattle.machine.proofs.Moves.{moved, step_at, step_moves}
+use Rattle.machine.proofs.Families.{step_at}
+use Rattle.machine.proofs.Moves.{moved, step_moves}
 use Rattle.machine.proofs.Runs.{one_more}
 
 free-kept : (o : Operand) (regs : List ℕ) (v : ℕ) → IsRegister o → IsFree o → slice_index (written regs o v) 4 ≡ slice_index regs 4
@@ -92,7 +94,7 @@ returns_at : (insns : List Insn) (pool : List ℕ) (t : Machine) (last : Insn) �
     → stack_pointer t ≡ entry_pointer t → step_of insns pool t ≡ Returns
 returns_at insns pool t last at op sp =
     step_at insns pool t last at
-    ∙ ap (λ (o : Op). tested (allows_by o last t) (free_by pool o last t)) op
+    ∙ ap (λ (o : Op). tested (allows_by (family_of o) last t) (conditional (holds_of o t.flags) (goes (family_of o) pool last t))) op
     ∙ ap (λ (b : Bool). tested b Returns) (eq-eqb (stack_pointer t) (entry_pointer t) sp)
 
 -- A plain function returns at its last instruction, in the state after its moves.

@@ -12,9 +12,10 @@ use Rattle.instruction_semantics.specs.Rows.{Computes, computed, row_expr}
 use Rattle.instruction_semantics.specs.FlagRules.{flags_after}
 use Rattle.machine.specs.declared.operands.Family.TheVariants.{Computing, Address, Choice, Setting}
 use Rattle.machine.specs.Access.{source_width}
-use Rattle.machine.specs.Family.{completed, family_of}
+use Rattle.machine.specs.Family.{family_of}
 use Rattle.machine.specs.Machine.{Machine}
 use Rattle.machine.specs.Operands.{address_of, operand, value_of}
+use Rattle.machine.specs.Ready.{completed}
 use Rattle.machine.specs.Runnable.{HasCount, HasRowOf, IsRegister, IsWidth}
 use Rattle.machine.specs.Step.{after_row, destination_value, result_of, row_leaves, source_of, source_value, target_of}
 

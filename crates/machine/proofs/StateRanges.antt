@@ -14,17 +14,17 @@ use Rattle.instruction_semantics.specs.Words.{bit}
 use Rattle.instruction_semantics.proofs.WordLaws.{computed_below}
 use Rattle.machine.specs.declared.operands.Family.{Family}
 use Rattle.machine.specs.declared.operands.Family.TheVariants.{Computing, Address, Choice, Setting, Branch, Jump, Pushing, Popping, Return, Idle}
-use Rattle.machine.specs.Access.{source_width, stack_pointer, writes}
-use Rattle.machine.specs.Family.{family_of, goes, holds_of, passes}
+use Rattle.machine.specs.Access.{allows, source_width, stack_pointer, writes}
+use Rattle.machine.specs.Family.{family_of}
 use Rattle.machine.specs.Machine.{AreRegs, IsState, Machine, address_plus, offset_from}
 use Rattle.machine.specs.Memory.{with_word, word_at}
 use Rattle.machine.specs.Operands.{effective, merged, operand, value_of, with_value}
 use Rattle.machine.specs.Run.{Step, Goes, run_of}
 use Rattle.machine.specs.Runnable.{HasNumbers, IsRunnable, IsRunnableFunction, IsWidth}
-use Rattle.machine.specs.Step.{after_row, allows_at, conditional, free_at, tested, destination_of, destination_value, register_number, result_of, row_leaves, source_of, source_value, step_of, target_of}
+use Rattle.machine.specs.Step.{after_row, allows_at, changed, free_at, free_insn, insn_step, tested, destination_of, destination_value, register_number, result_of, row_leaves, source_of, source_value, step_of, target_of}
 use Rattle.machine.proofs.Bytewise.{byte_in_front}
-use Rattle.machine.proofs.Families.{step_by_family}
-use Rattle.machine.proofs.Frames.{LeadsTo, conditional-leads, tested-leads}
+use Rattle.machine.proofs.Families.{step_at}
+use Rattle.machine.proofs.Frames.{LeadsTo, free-leads, tested-leads}
 use Rattle.machine.proofs.Keeping.{set-below}
 use Rattle.machine.proofs.RowValues.{address_result, choice_result, choice_source, computes, row_computes, setting_result, source_is_width, source_read}
 use Rattle.machine.proofs.Runs.{run_keeps}
@@ -165,21 +165,23 @@ number_below : (o : Operand) → HasNumbers o → register_number o < 16
 number_below (Reg n w) h = h
 number_below _ h = lit< tt
 
-goes_ranged : (kind : Family) (pool : List ℕ) (n : ℕ) (i : Insn) (s : Machine) (holds : Bool) → family_of i.op ≡ kind → IsRunnable n i → IsPool pool → IsState s
-    → LeadsTo IsState (goes kind pool i s holds)
-goes_ranged Computing pool n i s holds f r bytes state = row_ranged pool n i s 0 r (computed_result pool n i s f r bytes state) state
-goes_ranged Address pool n i s holds f r bytes state = row_ranged pool n i s 0 r (address_below pool i s f) state
-goes_ranged Choice pool n i s holds f r bytes state = row_ranged pool n i s (bit holds) r (choice_below pool n i s holds f r bytes state) state
-goes_ranged Setting pool n i s holds f r bytes state = row_ranged pool n i s (bit holds) r (setting_below pool i s holds f r.width) state
-goes_ranged Branch pool n i s holds f r bytes state = record { regs = state.regs; entry = state.entry; vecs = state.vecs; memory = state.memory }
-goes_ranged Jump pool n i s holds f r bytes state = record { regs = state.regs; entry = state.entry; vecs = state.vecs; memory = state.memory }
-goes_ranged Pushing pool n i s holds f r bytes state = record {
+changed_ranged : (kind : Family) (pool : List ℕ) (n : ℕ) (i : Insn) (s : Machine) (holds : Bool) → family_of i.op ≡ kind → IsRunnable n i → IsPool pool → IsState s
+    → IsState (changed kind pool i s holds)
+changed_ranged Computing pool n i s holds f r bytes state = row_ranged pool n i s 0 r (computed_result pool n i s f r bytes state) state
+changed_ranged Address pool n i s holds f r bytes state = row_ranged pool n i s 0 r (address_below pool i s f) state
+changed_ranged Choice pool n i s holds f r bytes state = row_ranged pool n i s (bit holds) r (choice_below pool n i s holds f r bytes state) state
+changed_ranged Setting pool n i s holds f r bytes state = row_ranged pool n i s (bit holds) r (setting_below pool i s holds f r.width) state
+changed_ranged Branch pool n i s holds f r bytes state = state
+changed_ranged Jump pool n i s holds f r bytes state = state
+changed_ranged Return pool n i s holds f r bytes state = state
+changed_ranged Idle pool n i s holds f r bytes state = state
+changed_ranged Pushing pool n i s holds f r bytes state = record {
   regs = set_regs s.regs 4 (offset_from 8 (stack_pointer s)) (lit< tt) (omega arith) state.regs;
   entry = state.entry;
   vecs = state.vecs;
   memory = λ x. memory_below s.memory (offset_from 8 (stack_pointer s)) 8 (slice_index s.regs (register_number (operand i 0))) x state.memory;
 }
-goes_ranged Popping pool n i s holds f r bytes state = record {
+changed_ranged Popping pool n i s holds f r bytes state = record {
   regs = set_regs (slice_set s.regs 4 (address_plus (stack_pointer s) 8)) (register_number (operand i 0)) (word_at s.memory (stack_pointer s) 8)
       (number_below (operand i 0) (r.numbers 0)) (word_below s.memory (stack_pointer s) 8 state.memory)
       (set_regs s.regs 4 (address_plus (stack_pointer s) 8) (lit< tt) (omega arith) state.regs);
@@ -187,18 +189,20 @@ goes_ranged Popping pool n i s holds f r bytes state = record {
   vecs = state.vecs;
   memory = state.memory;
 }
-goes_ranged Return pool n i s holds f r bytes state = tt
-goes_ranged Idle pool n i s holds f r bytes state = record { regs = state.regs; entry = state.entry; vecs = state.vecs; memory = state.memory }
+
+insn_ranged : (pool : List ℕ) (n : ℕ) (i : Insn) (s : Machine) → IsRunnable n i → IsPool pool → IsState s → LeadsTo IsState (insn_step pool i s)
+insn_ranged pool n i s r bytes state =
+    tested-leads IsState (allows i s) (free_insn pool i s)
+    (λ allowed. free-leads IsState pool i s (λ holds place.
+    let h = changed_ranged (family_of i.op) pool n i s holds refl r bytes state in
+    record { regs = h.regs; entry = h.entry; vecs = h.vecs; memory = h.memory }))
 
 found_ranged : (insns : List Insn) (pool : List ℕ) (s : Machine) (found : Option Insn) → slice_get insns s.place ≡ found → IsRunnableFunction insns → IsPool pool
     → IsState s → LeadsTo IsState (step_of insns pool s)
 found_ranged insns pool s None at f bytes state =
     subst (λ (o : Option Insn). LeadsTo IsState (tested (allows_at o s) (free_at pool o s))) (sym at) tt
 found_ranged insns pool s (Some i) at f bytes state =
-    subst (λ (p : Step Machine). LeadsTo IsState p) (sym (step_by_family insns pool s i at))
-    (tested-leads IsState (passes (family_of i.op) i s) (conditional (holds_of i.op s.flags) (goes (family_of i.op) pool i s))
-    (λ allowed. conditional-leads IsState (holds_of i.op s.flags) (goes (family_of i.op) pool i s)
-    (λ holds. goes_ranged (family_of i.op) pool (length insns) i s holds refl (f.each s.place i at) bytes state)))
+    subst (λ (p : Step Machine). LeadsTo IsState p) (sym (step_at insns pool s i at)) (insn_ranged pool (length insns) i s (f.each s.place i at) bytes state)
 
 pub step_ranged : (insns : List Insn) (pool : List ℕ) (s t : Machine) → IsRunnableFunction insns → ((at : ℕ) → slice_index pool at < 256) → IsState s
     → step_of insns pool s ≡ Goes t → IsState t

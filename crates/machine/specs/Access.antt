@@ -8,7 +8,10 @@ use Rattle.insn_table.specs.declared.insn.Insn.{Insn}
 use Rattle.insn_table.specs.declared.insn.Operand.{Operand}
 use Rattle.insn_table.specs.declared.insn.Operand.TheVariants.{Mem}
 use Rattle.insn_table.specs.Forms.{is_nothing}
+use Rattle.machine.specs.declared.operands.Family.{Family}
+use Rattle.machine.specs.declared.operands.Family.TheVariants.{Address, Popping, Pushing, Return}
 use Rattle.machine.specs.declared.state.Region.{Region}
+use Rattle.machine.specs.Family.{family_of}
 use Rattle.machine.specs.Machine.{Machine, offset_from, stack_base}
 use Rattle.machine.specs.Operands.{effective, operand}
 
@@ -22,7 +25,7 @@ pub record Access : Type 0 where
 abbrev pub arity : Insn → ℕ
 arity i = if is_nothing (operand i 0) then 0 else (if is_nothing (operand i 1) then 1 else (if is_nothing (operand i 2) then 2 else 3))
 
--- whether the last operand is written, and whether the result needs what it held
+-- whether the last operand is written
 abbrev pub writes : Op → Bool
 writes ops.Cmp = false
 writes ops.Test = false
@@ -48,13 +51,14 @@ access_of s _ w write = []
 abbrev pub access_at : Insn → Machine → ℕ → List Access
 access_at i s k = access_of s (operand i k) (width_at i k) (((k + 1) == arity i) && writes i.op)
 
--- the accesses of an instruction: those of its memory operands, but `lea` makes none
-abbrev pub accesses_by : Op → Insn → Machine → List Access
-accesses_by ops.Lea i s = []
-accesses_by _ i s = access_at i s 0 ++ access_at i s 1 ++ access_at i s 2
+-- the accesses of the memory operands
+abbrev pub operand_accesses : Insn → Machine → List Access
+operand_accesses i s = access_at i s 0 ++ access_at i s 1 ++ access_at i s 2
 
-abbrev pub accesses : Insn → Machine → List Access
-accesses i s = accesses_by i.op i s
+-- what an instruction of a family may access: its memory operands, but `lea` makes no access
+abbrev pub accesses : Family → Insn → Machine → List Access
+accesses Address i s = []
+accesses _ i s = operand_accesses i s
 
 -- the bytes lie in the region
 abbrev pub holds_access : Region → Access → Bool
@@ -71,13 +75,13 @@ is_on_stack s at = not (nat_lt s.stack 8) && not (nat_lt (s.stack - 8) (offset_f
 abbrev pub stack_pointer : Machine → ℕ
 stack_pointer s = slice_index s.regs 4
 
--- each test of an instruction holds: of PUSH and POP that their bytes are declared, of RET that the stack pointer is that
--- of the entry, of every other that each access is allowed
-abbrev pub allows_by : Op → Insn → Machine → Bool
-allows_by ops.Push i s = is_on_stack s (offset_from 8 (stack_pointer s))
-allows_by ops.Pop i s = is_on_stack s (stack_pointer s)
-allows_by ops.Ret i s = stack_pointer s == slice_index s.entry 4
-allows_by _ i s = list_all (is_allowed s) (accesses i s)
+-- each test of an instruction of a family holds: of PUSH and POP that their bytes are declared, of RET that the stack
+-- pointer is that of the entry, of every other that each access is allowed
+abbrev pub allows_by : Family → Insn → Machine → Bool
+allows_by Pushing i s = is_on_stack s (offset_from 8 (stack_pointer s))
+allows_by Popping i s = is_on_stack s (stack_pointer s)
+allows_by Return i s = stack_pointer s == slice_index s.entry 4
+allows_by kind i s = list_all (is_allowed s) (accesses kind i s)
 
 abbrev pub allows : Insn → Machine → Bool
-allows i s = allows_by i.op i s
+allows i s = allows_by (family_of i.op) i s

@@ -10,6 +10,7 @@ pub mod Machine
 pub mod Memory
 pub mod Operands
 pub mod Path
+pub mod Ready
 pub mod Run
 pub mod Runnable
 pub mod Spanned

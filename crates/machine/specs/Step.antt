@@ -1,5 +1,6 @@
--- One step: where an instruction goes, and how it changes the state. The free step takes every access as allowed and
--- every return as one; the step is the free step under the tests of what is allowed.
+-- One step, from its parts: what the instruction may access and whether all of it is allowed (in Access), where it leads, and
+-- how it changes the state. The free step takes every access as allowed and every return as one; the step is the free step
+-- under the tests of what is allowed.
 --
 -- What a row computes and which flags it leaves is said in instruction_semantics, with the sections of Intel's Software
 -- Developer's Manual, volume 2.
@@ -13,8 +14,10 @@ use Rattle.instruction_semantics.specs.Words.{bit}
 use Rattle.instruction_semantics.specs.Exprs.{value}
 use Rattle.instruction_semantics.specs.Rows.{row_expr}
 use Rattle.instruction_semantics.specs.FlagRules.{flags_after}
-use Rattle.instruction_semantics.specs.Conditions.{cond_of}
+use Rattle.machine.specs.declared.operands.Family.{Family}
+use Rattle.machine.specs.declared.operands.Family.TheVariants.{Branch, Choice, Idle, Jump, Popping, Pushing, Return, Setting}
 use Rattle.machine.specs.Access.{allows, arity, source_width, stack_pointer, writes}
+use Rattle.machine.specs.Family.{family_of, holds_of}
 use Rattle.machine.specs.Machine.{Machine, address_plus, offset_from}
 use Rattle.machine.specs.Memory.{with_word, word_at}
 use Rattle.machine.specs.Operands.{address_of, operand, value_of, with_value}
@@ -54,16 +57,13 @@ abbrev pub result_of : List ℕ → Insn → Machine → ℕ → ℕ
 result_of pool i s cond =
     value (row_leaves (destination_value pool i s) (source_value pool i.op i s) cond) (row_expr i.op i.w (source_value pool i.op i s))
 
--- the state after a row
+-- the state after a row's result
 abbrev pub with_result : List ℕ → Insn → Machine → ℕ → Machine
 with_result pool i s cond = if writes i.op then with_value i.w s (target_of i.op i) (result_of pool i s cond) else s
 
+-- the state after a row
 abbrev pub after_row : List ℕ → Insn → Machine → ℕ → Machine
-after_row pool i s cond =
-    record (with_result pool i s cond) {
-      flags = flags_after i.op i.w (destination_value pool i s) (source_value pool i.op i s) s.flags;
-      place = s.place + 1;
-    }
+after_row pool i s cond = record (with_result pool i s cond) { flags = flags_after i.op i.w (destination_value pool i s) (source_value pool i.op i s) s.flags }
 
 -- the place that a jump goes to
 abbrev pub jump_place : Operand → ℕ
@@ -85,39 +85,54 @@ pushed i s =
     record s {
       regs = slice_set s.regs 4 below;
       memory = with_word s.memory below 8 (slice_index s.regs (register_number (operand i 0)));
-      place = s.place + 1;
     }
 
 -- POP into the stack pointer leaves the value read
 abbrev pub popped : Insn → Machine → Machine
 popped i s =
     let above = address_plus (stack_pointer s) 8 in
-    record s {
-      regs = slice_set (slice_set s.regs 4 above) (register_number (operand i 0)) (word_at s.memory (stack_pointer s) 8);
-      place = s.place + 1;
-    }
+    record s { regs = slice_set (slice_set s.regs 4 above) (register_number (operand i 0)) (word_at s.memory (stack_pointer s) 8) }
 
--- what a condition's value leads to; a flag that is unset is met
+-- how an instruction of a family changes registers, flags and memory, where its condition, if it reads one, has this value
+abbrev pub changed : Family → List ℕ → Insn → Machine → Bool → Machine
+changed Pushing pool i s holds = pushed i s
+changed Popping pool i s holds = popped i s
+changed Branch pool i s holds = s
+changed Jump pool i s holds = s
+changed Return pool i s holds = s
+changed Idle pool i s holds = s
+changed Choice pool i s holds = after_row pool i s (bit holds)
+changed Setting pool i s holds = after_row pool i s (bit holds)
+changed _ pool i s holds = after_row pool i s 0
+
+-- where an instruction of a family at a place leads, where its condition has this value: None where it returns
+abbrev pub leads_to : Family → Insn → ℕ → Bool → Option ℕ
+leads_to Branch i place holds = Some (if holds then jump_place (operand i 0) else place + 1)
+leads_to Jump i place holds = Some (jump_place (operand i 0))
+leads_to Return i place holds = None
+leads_to _ i place holds = Some (place + 1)
+
+-- the changed state at the place that is led to
+abbrev pub gone : Option ℕ → Machine → Step Machine
+gone None s = Returns
+gone (Some place) s = Goes (at_place s place)
+
+abbrev pub goes : Family → List ℕ → Insn → Machine → Bool → Step Machine
+goes kind pool i s holds = gone (leads_to kind i s.place holds) (changed kind pool i s holds)
+
+-- what follows a condition's value; a flag that is unset is met
 abbrev pub conditional : Option Bool → (Bool → Step Machine) → Step Machine
 conditional None goes = MeetsUnset
 conditional (Some holds) goes = goes holds
 
-abbrev pub free_by : List ℕ → Op → Insn → Machine → Step Machine
-free_by pool (ops.Cmov c) i s = conditional (cond_of c s.flags) (λ holds. Goes (after_row pool i s (bit holds)))
-free_by pool (ops.Set c) i s = conditional (cond_of c s.flags) (λ holds. Goes (after_row pool i s (bit holds)))
-free_by pool (ops.Jump c) i s = conditional (cond_of c s.flags) (λ holds. Goes (at_place s (if holds then jump_place (operand i 0) else s.place + 1)))
-free_by pool ops.Jmp i s = Goes (at_place s (jump_place (operand i 0)))
-free_by pool ops.Push i s = Goes (pushed i s)
-free_by pool ops.Pop i s = Goes (popped i s)
-free_by pool ops.Ret i s = Returns
-free_by pool ops.Nop i s = Goes (at_place s (s.place + 1))
-free_by pool ops.Endbr64 i s = Goes (at_place s (s.place + 1))
-free_by pool _ i s = Goes (after_row pool i s 0)
+-- the free step of an instruction
+abbrev pub free_insn : List ℕ → Insn → Machine → Step Machine
+free_insn pool i s = conditional (holds_of i.op s.flags) (goes (family_of i.op) pool i s)
 
 -- the instruction at the state's place; a place outside of the function faults
 abbrev pub free_at : List ℕ → Option Insn → Machine → Step Machine
 free_at pool None s = Faults
-free_at pool (Some i) s = free_by pool i.op i s
+free_at pool (Some i) s = free_insn pool i s
 
 abbrev pub free_step : List Insn → List ℕ → Machine → Step Machine
 free_step insns pool s = free_at pool (slice_get insns s.place) s
@@ -136,6 +151,10 @@ tested false (Goes next) = Faults
 tested false Returns = Faults
 tested false Faults = Faults
 tested false MeetsUnset = MeetsUnset
+
+-- the step of an instruction
+abbrev pub insn_step : List ℕ → Insn → Machine → Step Machine
+insn_step pool i s = tested (allows i s) (free_insn pool i s)
 
 -- a step where each test must hold
 abbrev pub closed : {S : Type 0} → (S → Bool) → (S → Step S) → S → Step S

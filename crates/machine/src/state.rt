@@ -1,9 +1,10 @@
 ghost use Rattle.std.specs.Prelude.{◌≡◌, ℕ, ◌+◌, ◌-◌, ◌*◌, ◌/◌, ◌%◌, ◌^◌, ◌<◌, ◌≤◌, Some, IfOk, slice_get, slice_index, true, false, length, if◌then◌else◌};
 ghost use Rattle.std.specs.List.{list_all};
 ghost use Rattle.machine.specs.Access as access;
-ghost use Rattle.machine.specs.Family.{completed, goes, holds_of, insn_step, IsReady, passes, passes_accesses};
+ghost use Rattle.machine.specs.Family.{holds_of};
 ghost use Rattle.machine.specs.Machine.{IsStart, offset_from};
 ghost use Rattle.machine.specs.Operands as operands;
+ghost use Rattle.machine.specs.Ready.{completed, IsReady};
 ghost use Rattle.machine.specs.Spanned.{IsSpanned};
 ghost use Rattle.machine.specs.Run.{run_of};
 ghost use Rattle.machine.specs.Step as steps;
@@ -283,7 +284,7 @@ impl State {
     // Whether each operand in memory may be accessed.
     fn allows_operands(&self, insn: &Insn) -> bool
         requires numbers { (k : ℕ) → HasNumbers (operands.operand insn.now k) }
-        ensures { result ≡ passes_accesses insn.now (pure_of self.now) }
+        ensures { result ≡ list_all (access.is_allowed (pure_of self.now)) (access.operand_accesses insn.now (pure_of self.now)) }
     {
         self.allows_operand(insn, 0) && self.allows_operand(insn, 1) && self.allows_operand(insn, 2)
     }
@@ -299,7 +300,7 @@ impl State {
     // Whether the instruction's tests hold.
     fn allows(&self, family: Family, insn: &Insn) -> bool
         requires numbers { (k : ℕ) → HasNumbers (operands.operand insn.now k) }
-        ensures { result ≡ passes family insn.now (pure_of self.now) }
+        ensures { result ≡ access.allows_by family insn.now (pure_of self.now) }
     {
         match family {
             Family::Pushing => self.is_on_stack(self.regs[4].wrapping_sub(8)),
@@ -355,18 +356,16 @@ impl State {
         }
     }
 
-    // Ends a row: its result, its flags and the next place.
+    // Ends a row: its result and its flags.
     fn complete(&mut self, insn: &Insn, word: u64, flags: Flags)
         requires width { IsWidth insn.now.w }
         requires word { word < 2 ^ insn.now.w }
         requires numbers { (n : ℕ) → HasNumbers (operands.operand insn.now n) }
         requires spanned { access.writes insn.now.op ≡ true → IsSpanned self.old insn.now.w (steps.target_of insn.now.op insn.now) }
-        requires next { self.old.place + 1 < 2 ^ 32 }
         ensures { pure_of self.new ≡ completed insn.now (pure_of self.old) word flags }
     {
         self.put_result(insn, word);
         self.flags = flags;
-        self.place += 1;
     }
 
     // What a row's destination holds.
@@ -447,7 +446,6 @@ impl State {
         let below = self.regs[4].wrapping_sub(8);
         put_word(&mut self.spans, below, 8, value);
         self.regs[4] = below;
-        self.place += 1;
     }
 
     // `pop`: into the stack pointer, the value read stays.
@@ -460,38 +458,54 @@ impl State {
         let value = word_of(&self.spans, at, 8);
         self.regs[4] = at.wrapping_add(8);
         self.regs[n as usize] = value;
-        self.place += 1;
     }
 
-    // Goes to a place.
-    fn go_to(&mut self, place: u32)
-        ensures { pure_of self.new ≡ steps.at_place (pure_of self.old) place }
-    {
-        self.place = place;
-    }
-
-    // An instruction whose tests hold and whose condition has this value.
-    fn execute(&mut self, family: Family, pool: &[u8], insn: &Insn, holds: bool) -> StepEnd
+    // How an instruction whose tests hold changes registers, flags and memory, where its condition has
+    // this value.
+    fn change(&mut self, family: Family, pool: &[u8], insn: &Insn, holds: bool)
         requires { IsReady family insn.now self.old }
-        ensures { StepsAs (goes family pool.now insn.now (pure_of self.old) holds) (pure_of self.old) result (pure_of self.new) }
+        ensures { pure_of self.new ≡ steps.changed family pool.now insn.now (pure_of self.old) holds }
     {
-        let next = self.place + 1;
         match family {
             Family::Computing => self.compute(pool, insn),
             Family::Address => self.load_address(pool, insn),
             Family::Choice => self.choose(pool, insn, holds),
             Family::Setting => self.set(pool, insn, holds),
-            Family::Branch => self.go_to(if holds {
+            Family::Pushing => self.push(insn),
+            Family::Popping => self.pop(insn),
+            Family::Branch | Family::Jump | Family::Return | Family::Idle => {}
+        }
+    }
+
+    // Where it leads: `None` where it returns.
+    fn leads_to(&self, family: Family, insn: &Insn, holds: bool) -> Option<u32>
+        requires next { self.now.place + 1 < 2 ^ 32 }
+        ensures { result ≡ steps.leads_to family insn.now self.now.place holds }
+    {
+        let next = self.place + 1;
+        match family {
+            Family::Branch => Some(if holds {
                 jump_place(operand(insn, 0))
             } else {
                 next
             }),
-            Family::Jump => self.go_to(jump_place(operand(insn, 0))),
-            Family::Pushing => self.push(insn),
-            Family::Popping => self.pop(insn),
-            Family::Return => return StepEnd::Return,
-            Family::Idle => self.go_to(next),
+            Family::Jump => Some(jump_place(operand(insn, 0))),
+            Family::Return => None,
+            _ => Some(next),
         }
+    }
+
+    // An instruction whose tests hold and whose condition has this value.
+    fn execute(&mut self, family: Family, pool: &[u8], insn: &Insn, holds: bool) -> StepEnd
+        requires ready { IsReady family insn.now self.old }
+        requires next { self.old.place + 1 < 2 ^ 32 }
+        ensures { StepsAs (steps.goes family pool.now insn.now (pure_of self.old) holds) (pure_of self.old) result (pure_of self.new) }
+    {
+        let Some(place) = self.leads_to(family, insn, holds) else {
+            return StepEnd::Return;
+        };
+        self.change(family, pool, insn, holds);
+        self.place = place;
         StepEnd::Next
     }
 
@@ -510,7 +524,7 @@ impl State {
     fn run_insn(&mut self, pool: &[u8], insn: &Insn) -> StepEnd
         requires runnable { (n : ℕ) × IsRunnable n insn.now }
         requires next { self.old.place + 1 < 2 ^ 32 }
-        ensures { StepsAs (insn_step pool.now insn.now (pure_of self.old)) (pure_of self.old) result (pure_of self.new) }
+        ensures { StepsAs (steps.insn_step pool.now insn.now (pure_of self.old)) (pure_of self.old) result (pure_of self.new) }
     {
         let Some(holds) = self.condition_value(insn.op) else {
             return StepEnd::Unset;

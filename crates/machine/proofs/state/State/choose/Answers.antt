@@ -1,5 +1,5 @@
 use Rattle.std.proofs.Common.{◌≡◌, ◌∙◌, Bool, ap, sym, subst, if◌then◌else◌}
-use Rattle.machine.specs.Family.{completed}
+use Rattle.machine.specs.Ready.{completed}
 use Rattle.machine.specs.Kept.{IsKept, Kept, pure_of}
 use Rattle.machine.proofs.Allowed.{target_spanned}
 use Rattle.machine.proofs.RowValues.{choice_after}

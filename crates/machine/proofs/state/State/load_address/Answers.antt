@@ -1,7 +1,7 @@
 use Rattle.std.proofs.Common.{◌∙◌, ◌%◌, ◌^◌, ℕ, ap}
 use Rattle.insn_table.specs.declared.insn.Operand.{Operand}
 use Rattle.machine.specs.Kept.{Kept, pure_of}
-use Rattle.machine.specs.Family.{completed}
+use Rattle.machine.specs.Ready.{completed}
 use Rattle.machine.specs.Operands.{address_of}
 use Rattle.machine.proofs.Allowed.{register_spanned}
 use Rattle.machine.proofs.RowValues.{address_after, address_row}

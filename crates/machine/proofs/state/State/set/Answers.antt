@@ -1,6 +1,6 @@
 use Rattle.std.proofs.Common.{◌≡◌, ◌∙◌, ap, sym, subst}
 use Rattle.instruction_semantics.specs.Words.{bit}
-use Rattle.machine.specs.Family.{completed}
+use Rattle.machine.specs.Ready.{completed}
 use Rattle.machine.specs.Kept.{IsKept, Kept, pure_of}
 use Rattle.machine.proofs.Allowed.{target_spanned}
 use Rattle.machine.proofs.RowValues.{setting_after}
