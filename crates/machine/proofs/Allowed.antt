@@ -1,8 +1,7 @@
 -- What is allowed lies in spans.
-use Rattle.std.proofs.Common.{◌≡◌, inl, inr, ℕ, ◌+◌, ◌-◌, ◌/◌, ◌%◌, ◌^◌, ◌<◌, ◌≤◌, Bool, true, false, not, nat_lt, ◌&&◌, ◌||◌, List, [], ◌∷◌, ◌++◌, refl, sym, ◌∙◌, subst, arith}
+use Rattle.std.proofs.Common.{◌≡◌, inl, inr, ℕ, ◌+◌, ◌-◌, ◌/◌, ◌%◌, ◌^◌, ◌<◌, ◌≤◌, Bool, true, false, not, nat_lt, ◌&&◌, ◌||◌, List, [], ◌∷◌, refl, arith}
 use Rattle.std.specs.List.{AllByRecursion, list_all, list_any}
 use Rattle.std.proofs.lemmas.Bool.Decides.{nat_tests}
-use Rattle.std.proofs.lemmas.List.Folds.{list_all-append}
 use Rattle.align_base.specs.declared.op.Op.{Op}
 use Rattle.align_base.specs.declared.op.Op.TheVariants as ops
 use Rattle.insn_table.proofs.Bools.{both_true, either_true}
@@ -10,14 +9,14 @@ use Rattle.insn_table.specs.declared.insn.Insn.{Insn}
 use Rattle.insn_table.specs.declared.insn.Operand.{Operand}
 use Rattle.insn_table.specs.declared.insn.Operand.TheVariants.{Reg, Imm, Mem, Vec, Pool, Target, Nothing}
 use Rattle.machine.specs.declared.state.Region.{Region}
-use Rattle.insn_table.specs.Forms.{is_nothing}
-use Rattle.machine.specs.Access.{Access, access_at, access_of, arity, holds_access, is_allowed, is_on_stack, operand_accesses, writes}
+use Rattle.machine.specs.Access.{Access, access_of, arity, holds_access, is_allowed, is_on_stack, operand_accesses, writes}
 use Rattle.machine.specs.Kept.{IsKept, IsRegion, Kept, is_spanned, pure_of}
-use Rattle.machine.specs.Machine.{Machine, offset_from, stack_base}
+use Rattle.machine.specs.Machine.{offset_from, stack_base}
 use Rattle.machine.specs.Operands.{effective, operand}
 use Rattle.machine.specs.Runnable.{IsRegister}
 use Rattle.machine.specs.Spanned.{AreSpanned, IsSpanned}
 use Rattle.machine.specs.Step.{target_of}
+use Rattle.machine.proofs.Writing.{written_allowed}
 
 -- the j-th of n bytes that lie within len ones from a base on
 within_region : (base len at n j : ℕ) → base + len ≤ 2 ^ 64 → at < 2 ^ 64
@@ -74,65 +73,15 @@ operand_spanned k (Pool n) w h e = tt
 operand_spanned k (Target n) w h e = tt
 operand_spanned k Nothing w h e = tt
 
--- the last operand has the instruction's width, and is written where the operation writes
-last_of_one : (i : Insn) (s : Machine) → arity i ≡ 1 → writes i.op ≡ true → access_at i s 0 ≡ access_of s (operand i 0) i.w true
-last_of_one i s many w = rw (many, w) refl
-
-last_of_two : (i : Insn) (s : Machine) → arity i ≡ 2 → writes i.op ≡ true → access_at i s 1 ≡ access_of s (operand i 1) i.w true
-last_of_two i s many w = rw (many, w) refl
-
-last_of_three : (i : Insn) (s : Machine) → arity i ≡ 3 → writes i.op ≡ true → access_at i s 2 ≡ access_of s (operand i 2) i.w true
-last_of_three i s many w = rw (many, w) refl
-
-last_spanned : (i : Insn) (k : Kept) (n : ℕ) → IsKept k → access_at i (pure_of k) n ≡ access_of (pure_of k) (operand i n) i.w true
-    → list_all (is_allowed (pure_of k)) (access_at i (pure_of k) n) ≡ true → IsSpanned k i.w (operand i n)
-last_spanned i k n h last e =
-    operand_spanned k (operand i n) i.w h (subst (λ (xs : List Access). list_all (is_allowed (pure_of k)) xs ≡ true) last e)
-
-nothing_spanned : (k : Kept) (w : ℕ) (o : Operand) → is_nothing o ≡ true → IsSpanned k w o
-nothing_spanned k w (Mem base index scale disp) e = cc
-nothing_spanned k w (Reg n v) e = tt
-nothing_spanned k w (Imm v) e = tt
-nothing_spanned k w (Vec n v) e = tt
-nothing_spanned k w (Pool n) e = tt
-nothing_spanned k w (Target n) e = tt
-nothing_spanned k w Nothing e = tt
-
--- the last operand, where each access is allowed
-last_by : (i : Insn) (k : Kept) (a b c : Bool) → is_nothing (operand i 0) ≡ a → is_nothing (operand i 1) ≡ b → is_nothing (operand i 2) ≡ c
-    → IsKept k → writes i.op ≡ true
-    → list_all (is_allowed (pure_of k)) (access_at i (pure_of k) 0) ≡ true
-    → list_all (is_allowed (pure_of k)) (access_at i (pure_of k) 1) ≡ true
-    → list_all (is_allowed (pure_of k)) (access_at i (pure_of k) 2) ≡ true
-    → IsSpanned k i.w (operand i (arity i - 1))
-last_by i k true b c x y z h w e f g =
-    let many : arity i ≡ 0 = rw x refl in
-    rw many (nothing_spanned k i.w (operand i 0) x)
-last_by i k false true c x y z h w e f g =
-    let many : arity i ≡ 1 = rw (x, y) refl in
-    rw many (last_spanned i k 0 h (last_of_one i (pure_of k) many w) e)
-last_by i k false false true x y z h w e f g =
-    let many : arity i ≡ 2 = rw (x, y, z) refl in
-    rw many (last_spanned i k 1 h (last_of_two i (pure_of k) many w) f)
-last_by i k false false false x y z h w e f g =
-    let many : arity i ≡ 3 = rw (x, y, z) refl in
-    rw many (last_spanned i k 2 h (last_of_three i (pure_of k) many w) g)
-
-three_true : (p : Access → Bool) (xs ys zs : List Access) → list_all p (xs ++ ys ++ zs) ≡ true → (list_all p xs ≡ true) × (list_all p ys ≡ true) × (list_all p zs ≡ true)
-three_true p xs ys zs h =
-    let two = both_true (list_all p (xs ++ ys)) (list_all p zs) (sym (list_all-append p (xs ++ ys) zs) ∙ h) in
-    let one = both_true (list_all p xs) (list_all p ys) (sym (list_all-append p xs ys) ∙ two.0) in
-    (one.0, one.1, two.1)
-
 target_by : (op : Op) (i : Insn) (k : Kept) → IsSpanned k i.w (operand i (arity i - 1)) → IsSpanned k i.w (target_of op i)
 target_by ops.Cltq i k h = tt
 target_by _ i k h = h
 
--- what a row writes is spanned, where its tests hold
-pub target_spanned : (i : Insn) (k : Kept) → IsKept k → list_all (is_allowed (pure_of k)) (operand_accesses i (pure_of k)) ≡ true → writes i.op ≡ true → IsSpanned k i.w (target_of i.op i)
-target_spanned i k h passes w =
-    let all = three_true (is_allowed (pure_of k)) (access_at i (pure_of k) 0) (access_at i (pure_of k) 1) (access_at i (pure_of k) 2) passes in
-    target_by i.op i k (last_by i k (is_nothing (operand i 0)) (is_nothing (operand i 1)) (is_nothing (operand i 2)) refl refl refl h w all.0 all.1 all.2)
+-- what a row writes is spanned, where its accesses are allowed
+pub target_spanned : (i : Insn) (k : Kept) → IsKept k → list_all (is_allowed (pure_of k)) (operand_accesses i (pure_of k)) ≡ true → writes i.op ≡ true
+    → IsSpanned k i.w (target_of i.op i)
+target_spanned i k h allowed w =
+    target_by i.op i k (operand_spanned k (operand i (arity i - 1)) i.w h (written_allowed i (pure_of k) w allowed))
 
 -- a register is no memory
 pub register_spanned : (k : Kept) (w : ℕ) (o : Operand) → IsRegister o → IsSpanned k w o

@@ -1,20 +1,18 @@
 -- What a step leaves as it was, and what a run does.
-use Rattle.std.proofs.Common.{◌≡◌, ◌⊎◌, inl, inr, ℕ, ◌+◌, ◌-◌, ◌/◌, ◌%◌, ◌^◌, ◌==◌, ◌<◌, ◌≤◌, Bool, true, false, not, ◌&&◌, ◌||◌, nat_le, nat_lt, List, [], ◌∷◌, ◌++◌, slice_get, slice_index, Option, None, Some, if◌then◌else◌, refl, sym, ◌∙◌, subst, arith}
+use Rattle.std.proofs.Common.{◌≡◌, ◌⊎◌, inl, inr, ℕ, ◌+◌, ◌-◌, ◌/◌, ◌%◌, ◌^◌, ◌<◌, ◌≤◌, Bool, true, false, not, ◌&&◌, ◌||◌, nat_lt, List, [], ◌∷◌, slice_get, slice_index, Option, None, Some, if◌then◌else◌, refl, sym, ◌∙◌, subst, arith}
 use Rattle.std.specs.List.{list_all, list_any}
 use Rattle.std.proofs.lemmas.Bool.{and_from, and_parts, lt-ltb, ltb-false, ltb-true, not-true, or_cases, or_left, or_right}
-use Rattle.std.proofs.lemmas.List.Folds.{list_all-append}
-use Rattle.align_base.specs.declared.op.Op.{Op}
 use Rattle.align_base.specs.declared.op.Op.TheVariants as ops
 use Rattle.insn_table.specs.declared.insn.Insn.{Insn}
 use Rattle.insn_table.specs.declared.insn.Operand.{Operand}
 use Rattle.insn_table.specs.declared.insn.Operand.TheVariants.{Reg, Imm, Mem, Vec, Pool, Target, Nothing}
-use Rattle.insn_table.specs.Forms.{is_addressed, is_nothing}
+use Rattle.insn_table.specs.Forms.{is_addressed}
 use Rattle.insn_table.specs.Closed.{IsClosed}
 use Rattle.insn_table.specs.Table.{IsTableInsn}
 use Rattle.instruction_semantics.specs.Words.{bit}
 use Rattle.machine.specs.declared.operands.Family.{Family}
 use Rattle.machine.specs.declared.operands.Family.TheVariants.{Branch, Choice, Idle, Jump, Popping, Pushing, Return, Setting}
-use Rattle.machine.specs.Access.{Access, access_at, access_of, accesses, allows, allows_by, arity, holds_access, is_allowed, is_on_stack, operand_accesses, source_width, stack_pointer, writes}
+use Rattle.machine.specs.Access.{Access, access_of, accesses, allows, allows_by, holds_access, is_allowed, is_on_stack, stack_pointer, writes}
 use Rattle.machine.specs.Family.{family_of, holds_of}
 use Rattle.machine.specs.Frame.{IsWritable, SameFrame, SameUnwritable, has_address, is_writable}
 use Rattle.machine.specs.Machine.{Machine, offset_from, stack_base}
@@ -25,6 +23,7 @@ use Rattle.machine.specs.Runnable.{IsRegister}
 use Rattle.machine.specs.Step.{after_row, allows_at, at_place, changed, conditional, free_at, free_insn, goes, gone, leads_to, register_number, result_of, step_of, target_of, tested}
 use Rattle.machine.specs.declared.state.Region.{Region}
 use Rattle.machine.proofs.Runs.{run_keeps}
+use Rattle.machine.proofs.Writing.{row_allowed}
 use Rattle.machine.proofs.Closed.{lea_register}
 
 -- what holds of the next state, where there is one
@@ -173,66 +172,6 @@ register-not_addressed _ is = absurd is
 table-tested : (i : Insn) → IsTableInsn i → IsTested i
 table-tested i t e = register-not_addressed (target_of ops.Lea i) (lea_register i t e)
 
-no-access : (s : Machine) (w : ℕ) (o : Operand) → is_addressed o ≡ false → list_all (is_allowed s) (access_of s o w true) ≡ true
-no-access s w (Mem base index scale disp) h = absurd (cc)
-no-access s w (Reg n width) h = refl
-no-access s w (Imm v) h = refl
-no-access s w (Vec n width) h = refl
-no-access s w (Pool n) h = refl
-no-access s w (Target n) h = refl
-no-access s w Nothing h = refl
-
-nothing_addressed : (o : Operand) → is_nothing o ≡ true → is_addressed o ≡ false
-nothing_addressed (Mem base index scale disp) h = absurd (cc)
-nothing_addressed (Reg n width) h = refl
-nothing_addressed (Imm v) h = refl
-nothing_addressed (Vec n width) h = refl
-nothing_addressed (Pool n) h = refl
-nothing_addressed (Target n) h = refl
-nothing_addressed Nothing h = refl
-
--- the access of operand k of so many, where the operation writes
-abbrev access_with : Insn → Machine → ℕ → ℕ → Bool → List Access
-access_with i s k operands writing =
-    access_of s (operand i k) (if (k == 0) && nat_le 2 operands then source_width i.op i.w else i.w) (((k + 1) == operands) && writing)
-
-abbrev count_of : Bool → Bool → Bool → ℕ
-count_of first second third = if first then 0 else (if second then 1 else (if third then 2 else 3))
-
--- the last operand is among those of which each access is allowed
-last-allowed : (i : Insn) (s : Machine) (first second third : Bool) → is_nothing (operand i 0) ≡ first
-    → list_all (is_allowed s) (access_with i s 0 (count_of first second third) true) ≡ true
-    → list_all (is_allowed s) (access_with i s 1 (count_of first second third) true) ≡ true
-    → list_all (is_allowed s) (access_with i s 2 (count_of first second third) true) ≡ true
-    → list_all (is_allowed s) (access_of s (operand i (count_of first second third - 1)) i.w true) ≡ true
-last-allowed i s true second third none a b c = no-access s i.w (operand i 0) (nothing_addressed (operand i 0) none)
-last-allowed i s false true third none a b c = a
-last-allowed i s false false true none a b c = b
-last-allowed i s false false false none a b c = c
-
-all-three : (p : Access → Bool) (xs ys zs : List Access) → list_all p (xs ++ ys ++ zs) ≡ true
-    → (list_all p xs ≡ true) × (list_all p ys ≡ true) × (list_all p zs ≡ true)
-all-three p xs ys zs h =
-    let two = and_parts (list_all p (xs ++ ys)) (list_all p zs) (sym (list_all-append p (xs ++ ys) zs) ∙ h) in
-    let one = and_parts (list_all p xs) (list_all p ys) (sym (list_all-append p xs ys) ∙ two.0) in
-    (one.0, one.1, two.1)
-
-written-allowed : (i : Insn) (s : Machine) → writes i.op ≡ true → list_all (is_allowed s) (operand_accesses i s) ≡ true
-    → list_all (is_allowed s) (access_of s (operand i (arity i - 1)) i.w true) ≡ true
-written-allowed i s writing h =
-    let each = all-three (is_allowed s) (access_at i s 0) (access_at i s 1) (access_at i s 2) h in
-    let with_k = λ (k : ℕ) (g : list_all (is_allowed s) (access_at i s k) ≡ true).
-    subst (λ (b : Bool). list_all (is_allowed s) (access_with i s k (arity i) b) ≡ true) writing g
-    in
-    last-allowed i s (is_nothing (operand i 0)) (is_nothing (operand i 1)) (is_nothing (operand i 2)) refl (with_k 0 each.0) (with_k 1 each.1) (with_k 2 each.2)
-
--- what a row writes may be written, where its accesses are allowed and `lea` writes no memory
-target-allowed : (o : Op) (i : Insn) (s : Machine) → writes i.op ≡ true → (o ≡ ops.Lea → is_addressed (target_of ops.Lea i) ≡ false)
-    → list_all (is_allowed s) (accesses (family_of o) i s) ≡ true → list_all (is_allowed s) (access_of s (target_of o i) i.w true) ≡ true
-target-allowed ops.Cltq i s writing lea h = refl
-target-allowed ops.Lea i s writing lea h = no-access s i.w (target_of ops.Lea i) (lea refl)
-target-allowed _ i s writing lea h = written-allowed i s writing h
-
 choice-kept : (b : Bool) (s t : Machine) → (b ≡ true → SameUnwritable s t) → SameUnwritable s (if b then t else s)
 choice-kept true s t h = h refl
 choice-kept false s t h = λ x. inl refl
@@ -241,7 +180,7 @@ row-kept : (pool : List ℕ) (i : Insn) (s : Machine) (cond : ℕ) → IsTested 
     → SameUnwritable s (after_row pool i s cond)
 row-kept pool i s cond lea h =
     choice-kept (writes i.op) s (with_value i.w s (target_of i.op i) (result_of pool i s cond))
-    (λ writing. write-kept i.w s (target_of i.op i) (result_of pool i s cond) (target-allowed i.op i s writing lea h))
+    (λ writing. write-kept i.w s (target_of i.op i) (result_of pool i s cond) (row_allowed i.op i s writing lea h))
 
 push-kept : (s : Machine) (word : ℕ) → is_on_stack s (offset_from 8 (stack_pointer s)) ≡ true
     → (x : ℕ) → (with_word s.memory (offset_from 8 (stack_pointer s)) 8 word x ≡ s.memory x) ⊎ IsWritable s x

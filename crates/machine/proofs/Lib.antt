@@ -20,3 +20,4 @@ pub mod Closed
 pub mod StateRanges
 pub mod Targets
 pub mod Words
+pub mod Writing

@@ -307,12 +307,7 @@ impl State {
             Family::Popping => self.is_on_stack(self.regs[4]),
             Family::Return => self.regs[4] == self.entry[4],
             Family::Address => true,
-            Family::Computing => self.allows_operands(insn),
-            Family::Choice => self.allows_operands(insn),
-            Family::Setting => self.allows_operands(insn),
-            Family::Branch => self.allows_operands(insn),
-            Family::Jump => self.allows_operands(insn),
-            Family::Idle => self.allows_operands(insn),
+            _ => self.allows_operands(insn),
         }
     }
 }
