@@ -1,5 +1,5 @@
 -- Closed functions can be run: what the table says of an instruction is what running it needs.
-use Rattle.std.proofs.Common.{◌≡◌, ℕ, zero, suc, ◌-◌, ◌<◌, ◌==◌, Bool, true, false, ◌&&◌, ◌||◌, nat_lt, inl, inr, List, [], ◌∷◌, length, slice_get, unwrap_or, Option, Some, None, IfSome, cond, refl, sym, subst, ⊎_elim}
+use Rattle.std.proofs.Common.{◌≡◌, ℕ, zero, suc, ◌-◌, ◌<◌, ◌==◌, Bool, true, false, ◌&&◌, ◌||◌, nat_lt, inl, inr, List, [], ◌∷◌, length, slice_get, unwrap_or, Some, None, cond, refl, sym, subst, ⊎_elim}
 use Rattle.std.specs.List.{AllByRecursion, find, list_all}
 use Rattle.std.specs.Cmp.Lexicographic.{pointwise}
 use Rattle.std.proofs.lemmas.Bool.{ltb-true}
@@ -19,7 +19,7 @@ use Rattle.insn_table.proofs.Bools.{both_true, either_true}
 use Rattle.insn_table.proofs.TableInsns.{form-wide, judged-ok, passed_at, wide-cases}
 use Rattle.machine.specs.Access.{arity}
 use Rattle.machine.specs.Operands.{operand}
-use Rattle.machine.specs.Runnable.{HasCount, HasNumbers, HasRowOf, IsNumber, IsRegister, IsRunnable, IsRunnableFunction, IsWidth, JumpsBelow}
+use Rattle.machine.specs.Runnable.{HasCount, HasRowOf, IsRegister, IsRunnable, IsRunnableFunction, IsWidth, JumpsBelow}
 use Rattle.machine.specs.Step.{jump_place, target_of}
 
 -- widths
@@ -192,21 +192,6 @@ table-jump n (ops.Jump c) i form found fits inside = jump-inside n i (taken-by_o
 table-jump n ops.Jmp i form found fits inside = jump-inside n i (taken-by_one i (one Label) form found fits) inside
 table-jump n _ i form found fits inside = tt
 
--- registers
-
-number_is : (o : Option ℕ) → IfSome o (λ n. n < 16) → IsNumber o
-number_is None h = tt
-number_is (Some n) h = h
-
-numbers_of : (o : Operand) → HasRegisters o → HasNumbers o
-numbers_of (Reg n w) h = h
-numbers_of (Imm v) h = tt
-numbers_of (Mem base index scale disp) h = (number_is base h.0, number_is index h.1)
-numbers_of (Vec n w) h = tt
-numbers_of (Pool at) h = tt
-numbers_of (Target place) h = tt
-numbers_of Nothing h = tt
-
 -- the form of an instruction of the table
 abbrev HasFound : Insn → Type 0
 HasFound i = (form : Form) × (form_of i ≡ Some form) × (numbers_fit i.args form ≡ true)
@@ -220,7 +205,7 @@ table-runnable n i t inside =
     let found = table-form i t in
     record {
       width = form-width i.op i.w (takes i.args) found.0 (table-widths i t) found.1;
-      numbers = λ k. numbers_of (operand i k) (all_at HasRegisters i.args k tt t.registers);
+      numbers = λ k. all_at HasRegisters i.args k tt t.registers;
       row = table-row i.op i found.0 (table-widths i t) found.1 found.2;
       jump = table-jump n i.op i found.0 found.1 found.2 inside;
     }

@@ -5,6 +5,7 @@ use Rattle.std.proofs.Math.Nat.{pow-suc}
 use Rattle.std.proofs.lemmas.Nat.{mod_below, pow_pos}
 use Rattle.align_base.specs.declared.op.Op.{Op}
 use Rattle.align_base.specs.declared.op.Op.TheVariants as ops
+use Rattle.insn_table.specs.Table.{HasRegisters}
 use Rattle.insn_table.specs.declared.insn.Insn.{Insn}
 use Rattle.insn_table.specs.declared.insn.Operand.{Operand}
 use Rattle.insn_table.specs.declared.insn.Operand.TheVariants.{Reg, Imm, Mem, Vec, Pool, Target, Nothing}
@@ -20,7 +21,7 @@ use Rattle.machine.specs.Machine.{AreRegs, IsState, Machine, address_plus, offse
 use Rattle.machine.specs.Memory.{with_word, word_at}
 use Rattle.machine.specs.Operands.{effective, merged, operand, value_of, with_value}
 use Rattle.machine.specs.Run.{Step, Goes, run_of}
-use Rattle.machine.specs.Runnable.{HasNumbers, IsRunnable, IsRunnableFunction, IsWidth}
+use Rattle.machine.specs.Runnable.{IsRunnable, IsRunnableFunction, IsWidth}
 use Rattle.machine.specs.Step.{after_row, allows_at, changed, free_at, free_insn, insn_step, tested, destination_of, destination_value, register_number, result_of, row_leaves, source_of, source_value, step_of, target_of}
 use Rattle.machine.proofs.Bytewise.{byte_in_front}
 use Rattle.machine.proofs.Families.{step_at}
@@ -80,7 +81,7 @@ byte_chosen false x y h = h
 memory_below : (m : ℕ → ℕ) (at n word x : ℕ) → ((y : ℕ) → m y < 256) → with_word m at n word x < 256
 memory_below m at n word x h = byte_chosen (nat_lt (offset_from at x) n) (word / 256 ^ offset_from at x) (m x) (h x)
 
-write_ranged : (w : ℕ) (s : Machine) (o : Operand) (word : ℕ) → IsWidth w → HasNumbers o → word < 2 ^ w → IsState s → IsState (with_value w s o word)
+write_ranged : (w : ℕ) (s : Machine) (o : Operand) (word : ℕ) → IsWidth w → HasRegisters o → word < 2 ^ w → IsState s → IsState (with_value w s o word)
 write_ranged w s (Reg n width) word h low small state = record {
   regs = set_regs s.regs n (merged w (slice_index s.regs n) word) low (merged_below w (slice_index s.regs n) word h (state.regs.below n) small) state.regs;
   entry = state.entry;
@@ -161,7 +162,7 @@ setting_below : (pool : List ℕ) (i : Insn) (s : Machine) (holds : Bool) → fa
 setting_below pool i s holds f w =
     subst (λ (x : ℕ). x < 2 ^ i.w) (sym (setting_result i.op i.w (destination_value pool i s) (source_value pool i.op i s) holds f)) (bit_below holds i.w w)
 
-number_below : (o : Operand) → HasNumbers o → register_number o < 16
+number_below : (o : Operand) → HasRegisters o → register_number o < 16
 number_below (Reg n w) h = h
 number_below _ h = lit< tt
 

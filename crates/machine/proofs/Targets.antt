@@ -2,27 +2,27 @@
 use Rattle.std.proofs.Common.{ℕ, ◌-◌, ◌==◌, Bool, true, false, if◌then◌else◌, lit<}
 use Rattle.align_base.specs.declared.op.Op.{Op}
 use Rattle.align_base.specs.declared.op.Op.TheVariants as ops
+use Rattle.insn_table.specs.Table.{HasRegisters}
 use Rattle.insn_table.specs.declared.insn.Insn.{Insn}
 use Rattle.insn_table.specs.declared.insn.Operand.{Operand}
 use Rattle.machine.specs.Access.{arity}
 use Rattle.machine.specs.Operands.{operand}
-use Rattle.machine.specs.Runnable.{HasNumbers}
 use Rattle.machine.proofs.RowValues.{source_is_width}
 use Rattle.machine.specs.Step.{destination_of, source_of, target_of}
 
-pub target_numbers : (op : Op) (i : Insn) → ((n : ℕ) → HasNumbers (operand i n)) → HasNumbers (target_of op i)
+pub target_numbers : (op : Op) (i : Insn) → ((n : ℕ) → HasRegisters (operand i n)) → HasRegisters (target_of op i)
 target_numbers ops.Cltq i h = lit< tt
 target_numbers _ i h = h (arity i - 1)
 
-pub source_numbers : (op : Op) (i : Insn) → ((n : ℕ) → HasNumbers (operand i n)) → HasNumbers (source_of op i)
+pub source_numbers : (op : Op) (i : Insn) → ((n : ℕ) → HasRegisters (operand i n)) → HasRegisters (source_of op i)
 source_numbers ops.Cltq i h = lit< tt
 source_numbers _ i h = h 0
 
-chosen : (b : Bool) (x y : Operand) → HasNumbers x → HasNumbers y → HasNumbers (if b then x else y)
+chosen : (b : Bool) (x y : Operand) → HasRegisters x → HasRegisters y → HasRegisters (if b then x else y)
 chosen true x y h k = h
 chosen false x y h k = k
 
-pub destination_numbers : (op : Op) (i : Insn) → ((n : ℕ) → HasNumbers (operand i n)) → HasNumbers (destination_of op i)
+pub destination_numbers : (op : Op) (i : Insn) → ((n : ℕ) → HasRegisters (operand i n)) → HasRegisters (destination_of op i)
 destination_numbers ops.Cltq i h = lit< tt
 destination_numbers _ i h = chosen (arity i == 1) (operand i 0) (operand i 1) (h 0) (h 1)
 

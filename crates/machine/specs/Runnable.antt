@@ -1,31 +1,17 @@
 -- What running an instruction needs of it: widths and numbers in their ranges.
-use Rattle.std.specs.Prelude.{◌≡◌, ◌⊎◌, ℕ, ◌-◌, ◌^◌, ◌<◌, List, length, Option, Some, None, slice_get}
+use Rattle.std.specs.Prelude.{◌≡◌, ◌⊎◌, ℕ, ◌-◌, ◌^◌, ◌<◌, List, length, Some, slice_get}
 use Rattle.align_base.specs.declared.op.Op.{Op}
 use Rattle.align_base.specs.declared.op.Op.TheVariants as ops
 use Rattle.insn_table.specs.declared.insn.Insn.{Insn}
 use Rattle.insn_table.specs.declared.insn.Operand.{Operand}
-use Rattle.insn_table.specs.declared.insn.Operand.TheVariants.{Reg, Imm, Mem, Vec, Pool, Target, Nothing}
+use Rattle.insn_table.specs.declared.insn.Operand.TheVariants.{Reg, Imm}
 use Rattle.insn_table.specs.Closed.{IsLeaving}
+use Rattle.insn_table.specs.Table.{HasRegisters}
 use Rattle.machine.specs.Operands.{operand}
 use Rattle.machine.specs.Step.{jump_place, target_of}
 
 abbrev pub IsWidth : ℕ → Type 0
 IsWidth w = (w ≡ 8) ⊎ ((w ≡ 16) ⊎ ((w ≡ 32) ⊎ (w ≡ 64)))
-
--- one of the sixteen registers, where there is one
-abbrev pub IsNumber : Option ℕ → Type 0
-IsNumber None = Unit {0}
-IsNumber (Some n) = n < 16
-
--- each register of the operand is one of the sixteen
-abbrev pub HasNumbers : Operand → Type 0
-HasNumbers (Reg n w) = n < 16
-HasNumbers (Imm v) = Unit {0}
-HasNumbers (Mem base index scale disp) = IsNumber base × IsNumber index
-HasNumbers (Vec n w) = Unit {0}
-HasNumbers (Pool n) = Unit {0}
-HasNumbers (Target n) = Unit {0}
-HasNumbers Nothing = Unit {0}
 
 abbrev pub IsRegister : Operand → Type 0
 IsRegister (Reg n w) = Unit {0}
@@ -59,7 +45,7 @@ JumpsBelow n _ i = Unit {0}
 -- the instruction can be run among n instructions
 pub record IsRunnable (n : ℕ) (i : Insn) : Type 0 where
   pub width : IsWidth i.w
-  pub numbers : (k : ℕ) → HasNumbers (operand i k)
+  pub numbers : (k : ℕ) → HasRegisters (operand i k)
   pub row : HasRowOf i.op i
   pub jump : JumpsBelow n i.op i
 

@@ -1,4 +1,4 @@
-ghost use Rattle.std.specs.Prelude.{◌≡◌, ℕ, ◌+◌, ◌-◌, ◌*◌, ◌/◌, ◌%◌, ◌^◌, ◌<◌, ◌≤◌, Some, IfOk, slice_get, slice_index, true, false, length, if◌then◌else◌};
+ghost use Rattle.std.specs.Prelude.{◌≡◌, ℕ, ◌+◌, ◌-◌, ◌*◌, ◌/◌, ◌%◌, ◌^◌, ◌<◌, ◌≤◌, Some, IfOk, IfSome, slice_get, slice_index, true, false, length, if◌then◌else◌};
 ghost use Rattle.std.specs.List.{list_all};
 ghost use Rattle.machine.specs.Access as access;
 ghost use Rattle.machine.specs.Family.{holds_of};
@@ -10,8 +10,9 @@ ghost use Rattle.machine.specs.Run.{run_of};
 ghost use Rattle.machine.specs.Step as steps;
 ghost use Rattle.machine.specs.Stepping.{StepsAs};
 ghost use Rattle.instruction_semantics.specs.Words.{bit};
-ghost use Rattle.machine.specs.Runnable.{HasNumbers, HasRowOf, IsNumber, IsRunnable, IsWidth};
+ghost use Rattle.machine.specs.Runnable.{HasRowOf, IsRunnable, IsWidth};
 ghost use Rattle.insn_table.specs.Closed.{IsClosed};
+ghost use Rattle.insn_table.specs.Table.{HasRegisters};
 ghost use Rattle.machine.specs.Kept.{AreOrdered, IsKept, pure_of};
 ghost use Rattle.machine.specs.Start.{IsCopy, kept_start};
 
@@ -211,7 +212,7 @@ impl State {
 impl State {
     // What a base or an index adds to an address.
     fn held(&self, n: Option<u8>) -> u64
-        requires { IsNumber n }
+        requires { IfSome n (λ r. r < 16) }
         ensures { result ≡ operands.held self.now.regs n }
     {
         match n {
@@ -222,7 +223,7 @@ impl State {
 
     // The address of a memory operand, 0 of another.
     fn address(&self, operand: Operand) -> u64
-        requires { HasNumbers operand }
+        requires { HasRegisters operand }
         ensures { result ≡ operands.address_of self.now.regs operand }
     {
         match operand {
@@ -242,7 +243,7 @@ impl State {
     // What an operand of `w` bits holds.
     fn value(&self, pool: &[u8], w: u32, operand: Operand) -> u64
         requires width { IsWidth w }
-        requires numbers { HasNumbers operand }
+        requires numbers { HasRegisters operand }
         ensures value { result ≡ operands.value_of pool.now w (pure_of self.now) operand }
         ensures below { result < 2 ^ w }
     {
@@ -267,7 +268,7 @@ impl State {
     // Whether operand `k` may be accessed, if it is in memory.
     fn allows_operand(&self, insn: &Insn, k: usize) -> bool
         requires small { k < 3 }
-        requires numbers { (k : ℕ) → HasNumbers (operands.operand insn.now k) }
+        requires numbers { (k : ℕ) → HasRegisters (operands.operand insn.now k) }
         ensures { result ≡ list_all (access.is_allowed (pure_of self.now)) (access.access_at insn.now (pure_of self.now) k) }
     {
         let operand = operand(insn, k);
@@ -283,7 +284,7 @@ impl State {
 
     // Whether each operand in memory may be accessed.
     fn allows_operands(&self, insn: &Insn) -> bool
-        requires numbers { (k : ℕ) → HasNumbers (operands.operand insn.now k) }
+        requires numbers { (k : ℕ) → HasRegisters (operands.operand insn.now k) }
         ensures { result ≡ list_all (access.is_allowed (pure_of self.now)) (access.operand_accesses insn.now (pure_of self.now)) }
     {
         self.allows_operand(insn, 0) && self.allows_operand(insn, 1) && self.allows_operand(insn, 2)
@@ -299,7 +300,7 @@ impl State {
 
     // Whether the instruction's tests hold.
     fn allows(&self, family: Family, insn: &Insn) -> bool
-        requires numbers { (k : ℕ) → HasNumbers (operands.operand insn.now k) }
+        requires numbers { (k : ℕ) → HasRegisters (operands.operand insn.now k) }
         ensures { result ≡ access.allows_by family insn.now (pure_of self.now) }
     {
         match family {
@@ -318,7 +319,7 @@ impl State {
     fn put(&mut self, target: Operand, w: u32, word: u64)
         requires width { IsWidth w }
         requires word { word < 2 ^ w }
-        requires numbers { HasNumbers target }
+        requires numbers { HasRegisters target }
         requires spanned { IsSpanned self.old w target }
         ensures state { pure_of self.new ≡ operands.with_value w (pure_of self.old) target word }
         ensures place { self.new.place ≡ self.old.place }
@@ -340,7 +341,7 @@ impl State {
     fn put_result(&mut self, insn: &Insn, word: u64)
         requires width { IsWidth insn.now.w }
         requires word { word < 2 ^ insn.now.w }
-        requires numbers { (n : ℕ) → HasNumbers (operands.operand insn.now n) }
+        requires numbers { (n : ℕ) → HasRegisters (operands.operand insn.now n) }
         requires spanned { access.writes insn.now.op ≡ true → IsSpanned self.old insn.now.w (steps.target_of insn.now.op insn.now) }
         ensures state { pure_of self.new ≡ (if access.writes insn.now.op
             then operands.with_value insn.now.w (pure_of self.old) (steps.target_of insn.now.op insn.now) word else pure_of self.old) }
@@ -355,7 +356,7 @@ impl State {
     fn complete(&mut self, insn: &Insn, word: u64, flags: Flags)
         requires width { IsWidth insn.now.w }
         requires word { word < 2 ^ insn.now.w }
-        requires numbers { (n : ℕ) → HasNumbers (operands.operand insn.now n) }
+        requires numbers { (n : ℕ) → HasRegisters (operands.operand insn.now n) }
         requires spanned { access.writes insn.now.op ≡ true → IsSpanned self.old insn.now.w (steps.target_of insn.now.op insn.now) }
         ensures { pure_of self.new ≡ completed insn.now (pure_of self.old) word flags }
     {
@@ -367,7 +368,7 @@ impl State {
     #[tactic(auto, using(crate::proofs::Targets::targets))]
     fn destination_value(&self, pool: &[u8], insn: &Insn) -> u64
         requires width { IsWidth insn.now.w }
-        requires numbers { (n : ℕ) → HasNumbers (operands.operand insn.now n) }
+        requires numbers { (n : ℕ) → HasRegisters (operands.operand insn.now n) }
         ensures value { result ≡ steps.destination_value pool.now insn.now (pure_of self.now) }
         ensures below { result < 2 ^ insn.now.w }
     {
@@ -378,7 +379,7 @@ impl State {
     #[tactic(auto, using(crate::proofs::Targets::targets))]
     fn source_value(&self, pool: &[u8], insn: &Insn) -> u64
         requires width { IsWidth insn.now.w }
-        requires numbers { (n : ℕ) → HasNumbers (operands.operand insn.now n) }
+        requires numbers { (n : ℕ) → HasRegisters (operands.operand insn.now n) }
         requires row { HasRowOf insn.now.op insn.now }
         ensures value { result ≡ operands.value_of pool.now (access.source_width insn.now.op insn.now.w) (pure_of self.now)
             (steps.source_of insn.now.op insn.now) }
