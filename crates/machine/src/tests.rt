@@ -288,9 +288,7 @@ fn the_stack_within_its_bytes(rt: HostRuntime) -> Result<(), Fail> {
     let pop = function(rt.alloc(), &[one(b"popq", register(RAX, 64))])?;
     let mut state = start(rt.alloc(), 0, 0)?;
     assert_eq!(rt; state.run(&pop, 9), RunEnd::Faulted(1));
-    let copy = state.copy(rt.alloc())?;
-    assert_eq!(rt; copy.reg(RSP), 8192);
-    assert_eq!(rt; *copy.vec(15), Bytes32 { bytes: [0; 32] });
+    assert_eq!(rt; state.reg(RSP), 8192);
     Ok(())
 }
 
@@ -606,6 +604,101 @@ fn a_step_that_ends_the_run_repeats(rt: HostRuntime) -> Result<(), Fail> {
         assert_eq!(rt; state.run(&f, 9), run_end);
         assert_eq!(rt; state.place(), 0);
         assert_eq!(rt; state.reg(RAX), 3);
+    }
+    Ok(())
+}
+
+#[test]
+fn a_copy_goes_on_by_itself(rt: HostRuntime) -> Result<(), Fail> {
+    // incb (%rcx); je to the first; jne to the first
+    let f = function(
+        rt.alloc(),
+        &[
+            one(b"incb", AT_RCX),
+            one(b"je", Operand::Target(0)),
+            one(b"jne", Operand::Target(0)),
+        ],
+    )?;
+    let mut state = start(rt.alloc(), 3, 4096)?;
+    assert_eq!(rt; state.step(&f), StepEnd::Next);
+    let mut copy = state.copy(rt.alloc())?;
+    assert_eq!(rt; copy.place(), 1);
+    assert_eq!(rt; copy.byte(4096), 0x12);
+    assert_eq!(rt; copy.byte(4111), 0x11);
+    assert_eq!(rt;
+        (copy.reg(RAX), copy.reg(RCX), copy.reg(RSP)),
+        (3, 4096, 8192)
+    );
+    assert_eq!(rt; copy.entry(RCX), 4096);
+    assert_eq!(rt; *copy.vec(15), Bytes32 { bytes: [0; 32] });
+    assert_eq!(rt; copy.run(&f, 3), RunEnd::Running);
+    assert_eq!(rt; (copy.place(), copy.byte(4096)), (1, 0x13));
+    assert_eq!(rt; (state.place(), state.byte(4096)), (1, 0x12));
+    Ok(())
+}
+
+#[test]
+fn a_conditional_jump_goes_one_of_two_ways(rt: HostRuntime) -> Result<(), Fail> {
+    // cmpl $5,%eax; jump to the return; incq %rcx
+    for (word, rax, jumps) in [
+        (b"je".as_slice(), 5, true),
+        (b"je".as_slice(), 4, false),
+        (b"jb".as_slice(), 4, true),
+        (b"jb".as_slice(), 5, false),
+        (b"ja".as_slice(), 0xFFFF_FFFF, true),
+        (b"jg".as_slice(), 0xFFFF_FFFF, false),
+        (b"jg".as_slice(), 6, true),
+        (b"jo".as_slice(), 0x8000_0000, true),
+        (b"jo".as_slice(), 0x7FFF_FFFF, false),
+        // 8 - 5 has two bits set, 6 - 5 one
+        (b"jp".as_slice(), 8, true),
+        (b"jp".as_slice(), 6, false),
+    ] {
+        let f = function(
+            rt.alloc(),
+            &[
+                two(b"cmpl", Operand::Imm(5), EAX),
+                one(word, Operand::Target(3)),
+                one(b"incq", register(RCX, 64)),
+            ],
+        )?;
+        let mut state = start(rt.alloc(), rax, 7)?;
+        let (steps, rcx) = if jumps { (3, 7) } else { (4, 8) };
+        assert_eq!(rt; state.run(&f, 9), RunEnd::Returned(steps), "from {rax}");
+        assert_eq!(rt; state.reg(RCX), rcx, "from {rax}");
+        assert_eq!(rt; state.place(), 3);
+    }
+    Ok(())
+}
+
+#[test]
+fn a_pop_into_the_stack_pointer_leaves_what_it_read(rt: HostRuntime) -> Result<(), Fail> {
+    let f = function(
+        rt.alloc(),
+        &[
+            one(b"pushq", register(RAX, 64)),
+            one(b"popq", register(RSP, 64)),
+        ],
+    )?;
+    for (rax, end) in [(8192, RunEnd::Returned(3)), (5, RunEnd::Faulted(3))] {
+        let mut state = start(rt.alloc(), rax, 0)?;
+        assert_eq!(rt; state.run(&f, 9), end);
+        assert_eq!(rt; state.reg(RSP), rax);
+    }
+    Ok(())
+}
+
+#[test]
+fn a_constant_is_no_access(rt: HostRuntime) -> Result<(), Fail> {
+    // bytes past the end of the pool are 0
+    for (at, rax) in [(0, 0x0403_0201), (2, 0x0605_0403), (4, 0x0605), (7, 0)] {
+        let f = Function {
+            pool: Bytes::of(Vec::from_slice(rt.alloc(), &[1, 2, 3, 4, 5, 6])?),
+            ..function(rt.alloc(), &[two(b"movl", Operand::Pool(at), EAX)])?
+        };
+        let mut state = start(rt.alloc(), 0xFFFF_FFFF_FFFF_FFFF, 0)?;
+        assert_eq!(rt; state.run(&f, 9), RunEnd::Returned(2));
+        assert_eq!(rt; state.reg(RAX), rax);
     }
     Ok(())
 }
