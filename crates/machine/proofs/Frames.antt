@@ -25,6 +25,7 @@ use Rattle.machine.specs.declared.state.Region.{Region}
 use Rattle.machine.proofs.Runs.{run_keeps}
 use Rattle.machine.proofs.Writing.{row_allowed}
 use Rattle.machine.proofs.Closed.{lea_register}
+use Rattle.machine.proofs.MemoryWords.{with_word-if}
 
 -- what holds of the next state, where there is one
 abbrev pub LeadsTo : {S : Type 0} → (S → Type 0) → Step S → Type 0
@@ -142,7 +143,8 @@ byte-kept false new old P h = inl refl
 -- a word that is written where each of its bytes may be written
 word-kept : (s : Machine) (at n word x : ℕ) → (nat_lt (offset_from at x) n ≡ true → IsWritable s x)
     → (with_word s.memory at n word x ≡ s.memory x) ⊎ IsWritable s x
-word-kept s at n word x h = byte-kept (nat_lt (offset_from at x) n) (word / 256 ^ offset_from at x % 256) (s.memory x) (IsWritable s x) h
+word-kept s at n word x h =
+    rw (with_word-if s.memory at n word x) (byte-kept (nat_lt (offset_from at x) n) (word / 256 ^ offset_from at x % 256) (s.memory x) (IsWritable s x) h)
 
 -- a write whose access is allowed
 write-kept : (w : ℕ) (s : Machine) (o : Operand) (word : ℕ) → list_all (is_allowed s) (access_of s o w true) ≡ true → SameUnwritable s (with_value w s o word)

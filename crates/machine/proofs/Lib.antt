@@ -7,6 +7,7 @@ pub mod Families
 pub mod Frames
 pub mod Keeping
 pub mod KeptStates
+pub mod MemoryWords
 pub mod Moves
 pub mod Ordering
 pub mod Paths

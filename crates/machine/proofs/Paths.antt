@@ -1,15 +1,20 @@
 -- Paths over states of any kind: what a way says of the run, and what the tests make of a way of the free step.
-use Rattle.std.proofs.Common.{◌≡◌, ℕ, suc, ◌+◌, ◌==◌, ◌≤◌, Bool, true, false, ◌&&◌, List, [], ◌∷◌, length, Option, None, Some, if◌then◌else◌, refl, sym, ◌∙◌, ap, eqb-true, arith}
-use Rattle.machine.specs.Path.{Arrived, FallsWithin, Way, Through, Back, Fell, Off, allowed_after, allowed_along, by_test, rested, walked, way}
-use Rattle.machine.specs.Run.{Step, Goes, Returns, Faults, MeetsUnset, ended_by, later, run_of}
+use Rattle.std.proofs.Common.{◌≡◌, ℕ, zero, suc, ◌+◌, ◌==◌, ◌<◌, Bool, true, false, ◌&&◌, List, [], ◌∷◌, length, Option, None, Some, if◌then◌else◌, refl, sym, ◌∙◌, ap, eqb-true, arith}
+use Rattle.machine.specs.Path.{Arrived, FallsAtFirst, FallsWithin, Way, Through, Back, Fell, Off, allowed_after, allowed_along, rested, walked, way}
+use Rattle.machine.specs.Run.{Run, Step, Goes, Returns, Faults, MeetsUnset, ended_by, later, run_of}
 use Rattle.machine.specs.Step.{closed, tested}
-use Rattle.machine.specs.declared.state.RunEnd.TheVariants.{Returned, Running}
-use Rattle.machine.proofs.Runs.{faulted_stays, run-goes}
+use Rattle.machine.specs.declared.state.RunEnd.{RunEnd}
+use Rattle.machine.specs.declared.state.RunEnd.TheVariants.{Returned, Faulted, Unset, Running}
+use Rattle.machine.proofs.Runs.{run-goes}
 
 -- A way that begins at its first place, and one that begins elsewhere, which is off.
 at_first : {S : Type 0} (b : Bool) (w v : Way S) → (if b then w else Off) ≡ v → (v ≡ Off → ⊥) → (b ≡ true) × (w ≡ v)
 at_first true w v h on = (refl, h)
 at_first false w v h on = absurd (on (sym h))
+
+-- where the free run arrives, the run is it where every test holds, and falls otherwise
+abbrev by_test : {S : Type 0} → Bool → Way S → Way S
+by_test holds w = if holds then w else Fell
 
 -- one step of a path under the test: the rest of it is as by the free step, or falls
 closed-walked : {S : Type 0} (holds : Bool) (p : Step S) (s : S) (left : List ℕ) (next : Option ℕ) (rest free_rest : S → Way S) (after : S → Bool)
@@ -31,7 +36,7 @@ closed-first true holds w v more h = more h
 closed-first false holds w v more h = absurd h
 
 -- Where the free run arrives, the run is it where every test holds, and falls otherwise.
-pub way-closed : {S : Type 0} (place : S → ℕ) (allows : S → Bool) (free : S → Step S) (path : List ℕ) (next : Option ℕ) (s : S)
+way-closed : {S : Type 0} (place : S → ℕ) (allows : S → Bool) (free : S → Step S) (path : List ℕ) (next : Option ℕ) (s : S)
     → Arrived (way place free path next s)
     → way place (closed allows free) path next s ≡ by_test (allowed_along allows free path s) (way place free path next s)
 way-closed place allows free [] next s h = refl
@@ -50,25 +55,99 @@ pub way-allowed : {S : Type 0} (place : S → ℕ) (allows : S → Bool) (free :
 way-allowed place allows free path next s h holds =
     way-closed place allows free path next s h ∙ ap (λ (b : Bool). by_test b (way place free path next s)) holds
 
--- where it arrives and a test fails, the run falls
+-- where it arrives and a test fails, the run falls,
 pub way-falls : {S : Type 0} (place : S → ℕ) (allows : S → Bool) (free : S → Step S) (path : List ℕ) (next : Option ℕ) (s : S)
     → Arrived (way place free path next s) → allowed_along allows free path s ≡ false
     → way place (closed allows free) path next s ≡ Fell
 way-falls place allows free path next s h fails =
     way-closed place allows free path next s h ∙ ap (λ (b : Bool). by_test b (way place free path next s)) fails
 
+later-state : {S : Type 0} (l : ℕ) (s : S) (e : RunEnd) → (later l (s, e)).0 ≡ s
+later-state l s (Returned i) = refl
+later-state l s (Faulted i) = refl
+later-state l s (Unset i) = refl
+later-state l s Running = refl
+
+allowed-after : {S : Type 0} (allows : S → Bool) (free : S → Step S) (s t : S) (n : ℕ) → allows s ≡ true → free s ≡ Goes t
+    → ((k : ℕ) → k < n → allows (run_of free t k).0 ≡ true) → (k : ℕ) → k < suc n → allows (run_of free s k).0 ≡ true
+allowed-after allows free s t n holds is more zero h = holds
+allowed-after allows free s t n holds is more (suc k) h =
+    ap (λ (r : Run _). allows r.0) (run-goes free s t k is)
+    ∙ ap allows (later-state 1 (run_of free t k).0 (run_of free t k).1)
+    ∙ more k (omega (arith, h))
+
+-- after one allowed step, the first test that fails is the first from there on
+first-after : {S : Type 0} (allows : S → Bool) (free : S → Step S) (p : ℕ) (ps : List ℕ) (s t : S)
+    → allows s ≡ true → free s ≡ Goes t → FallsAtFirst allows free ps t → FallsAtFirst allows free (p ∷ ps) s
+first-after allows free p ps s t holds is there =
+    let taken : closed allows free s ≡ Goes t = ap (λ (b : Bool). tested b (free s)) holds ∙ is in
+    let count : 1 + suc there.steps ≡ suc (suc there.steps) = omega arith in
+    record {
+      steps = suc there.steps;
+      on_path = omega (arith, there.on_path);
+      at = there.at;
+      before = run-goes free s t there.steps is ∙ ap (later 1) there.before;
+      allowed = allowed-after allows free s t there.steps holds is there.allowed;
+      forbidden = there.forbidden;
+      run = run-goes (closed allows free) s t (suc there.steps) taken ∙ ap (later 1) there.run ∙ (λ j. (there.at, Faulted (count j)));
+    }
+
+-- the first step is the one whose test fails
+first-here : {S : Type 0} (allows : S → Bool) (free : S → Step S) (p : ℕ) (ps : List ℕ) (s : S)
+    → allows s ≡ false → tested false (free s) ≡ Faults → FallsAtFirst allows free (p ∷ ps) s
+first-here allows free p ps s fails faults = record {
+  steps = 0;
+  on_path = omega arith;
+  at = s;
+  before = refl;
+  allowed = λ k h. absurd (omega (arith, h));
+  forbidden = fails;
+  run = ap (ended_by s 1) (ap (λ (b : Bool). tested b (free s)) fails ∙ faults);
+}
+
+first-walked : {S : Type 0} (allows : S → Bool) (free : S → Step S) (holds : Bool) (q : Step S) (p : ℕ) (ps : List ℕ) (next : Option ℕ) (s : S)
+    (rest : S → Way S) → ((t : S) → Arrived (rest t) → allowed_along allows free ps t ≡ false → FallsAtFirst allows free ps t)
+    → allows s ≡ holds → free s ≡ q → Arrived (walked q s ps next rest) → (holds && allowed_after q (allowed_along allows free ps)) ≡ false
+    → FallsAtFirst allows free (p ∷ ps) s
+first-walked allows free true (Goes t) p ps next s rest more holds is h fails = first-after allows free p ps s t holds is (more t h fails)
+first-walked allows free true Returns p ps next s rest more holds is h fails = absurd (cc)
+first-walked allows free true Faults p ps next s rest more holds is h fails = absurd h
+first-walked allows free true MeetsUnset p ps next s rest more holds is h fails = absurd h
+first-walked allows free false (Goes t) p ps next s rest more holds is h fails = first-here allows free p ps s holds (ap (tested false) is)
+first-walked allows free false Returns p ps next s rest more holds is h fails = first-here allows free p ps s holds (ap (tested false) is)
+first-walked allows free false Faults p ps next s rest more holds is h fails = absurd h
+first-walked allows free false MeetsUnset p ps next s rest more holds is h fails = absurd h
+
+arrived-first : {S : Type 0} (b : Bool) (w : Way S) → Arrived (if b then w else Off) → Arrived w
+arrived-first true w h = h
+arrived-first false w h = absurd h
+
+-- and it faults at the first test that fails.
+pub way-falls_at_first : {S : Type 0} (place : S → ℕ) (allows : S → Bool) (free : S → Step S) (path : List ℕ) (next : Option ℕ) (s : S)
+    → Arrived (way place free path next s) → allowed_along allows free path s ≡ false → FallsAtFirst allows free path s
+way-falls_at_first place allows free [] next s h fails = absurd (cc)
+way-falls_at_first place allows free (p ∷ ps) next s h fails =
+    first-walked allows free (allows s) (free s) p ps next s (way place free ps next) (λ t. way-falls_at_first place allows free ps next t) refl refl
+    (arrived-first (place s == p) (walked (free s) s ps next (way place free ps next)) h)
+    fails
+
 fell-walked : {S : Type 0} (step : S → Step S) (p : Step S) (s : S) (ps : List ℕ) (next : Option ℕ) (rest : S → Way S)
     → ((t : S) → rest t ≡ Fell → FallsWithin step t (length ps)) → step s ≡ p → walked p s ps next rest ≡ Fell
     → FallsWithin step s (suc (length ps))
 fell-walked step (Goes t) s ps next rest more is h =
     let there = more t h in
-    record { at = there.at; number = 1 + there.number; run = run-goes step s t (length ps) is ∙ ap (later 1) there.run }
+    let count : 1 + there.number ≡ suc there.number = omega arith in
+    record {
+      at = there.at;
+      number = suc there.number;
+      within = omega (arith, there.within);
+      run = run-goes step s t there.number is ∙ ap (later 1) there.run ∙ (λ j. (there.at, Faulted (count j)));
+    }
 fell-walked step Returns s [] None rest more is h = absurd (cc)
 fell-walked step Returns s [] (Some n) rest more is h = absurd (cc)
 fell-walked step Returns s (p ∷ ps) next rest more is h = absurd (cc)
 fell-walked step Faults s ps next rest more is h =
-    let within : 1 ≤ suc (length ps) = omega arith in
-    record { at = s; number = 1; run = faulted_stays step s s 1 1 (suc (length ps)) within (ap (ended_by s 1) is) }
+    record { at = s; number = 1; within = omega arith; run = ap (ended_by s 1) is }
 fell-walked step MeetsUnset s ps next rest more is h = absurd (cc)
 
 rested-through : {S : Type 0} (place : S → ℕ) (n : ℕ) (b : Bool) (s t : S) → place s == n ≡ b → (if b then Through s else Off) ≡ Through t
@@ -84,7 +163,7 @@ rested-no_fall : {S : Type 0} (place : S → ℕ) (next : Option ℕ) (s : S) �
 rested-no_fall place None s h = cc
 rested-no_fall place (Some n) s h = no-fall (place s == n) s h
 
--- A way that fell is a run that faulted within as many steps as the path has places.
+-- A way that fell is a run that faulted by one of as many steps as the path has places.
 pub way-fell : {S : Type 0} (place : S → ℕ) (step : S → Step S) (path : List ℕ) (next : Option ℕ) (s : S)
     → way place step path next s ≡ Fell → FallsWithin step s (length path)
 way-fell place step [] next s h = absurd (rested-no_fall place next s h)

@@ -27,6 +27,7 @@ use Rattle.machine.proofs.Bytewise.{byte_in_front}
 use Rattle.machine.proofs.Families.{step_at}
 use Rattle.machine.proofs.Frames.{LeadsTo, free-leads, tested-leads}
 use Rattle.machine.proofs.Keeping.{set-below}
+use Rattle.machine.proofs.MemoryWords.{with_word-if, word_at-suc}
 use Rattle.machine.proofs.RowValues.{address_result, choice_result, choice_source, computes, row_computes, setting_result, source_is_width, source_read}
 use Rattle.machine.proofs.Runs.{run_keeps}
 use Rattle.machine.proofs.Targets.{target_numbers}
@@ -38,7 +39,7 @@ IsPool pool = (at : ℕ) → slice_index pool at < 256
 word_below : (m : ℕ → ℕ) (at n : ℕ) → ((x : ℕ) → m x < 256) → word_at m at n < 256 ^ n
 word_below m at zero h = lit< tt
 word_below m at (suc n) h =
-    rw (pow-suc 256 n) (byte_in_front (word_at m at n) (m (address_plus at n)) (256 ^ n) (word_below m at n h) (h (address_plus at n)))
+    rw (word_at-suc m at n, pow-suc 256 n) (byte_in_front (word_at m at n) (m (address_plus at n)) (256 ^ n) (word_below m at n h) (h (address_plus at n)))
 
 -- as many bytes as the bits of a width
 bytes_of_width : (w : ℕ) → IsWidth w → 256 ^ (w / 8) ≡ 2 ^ w
@@ -79,7 +80,8 @@ byte_chosen true x y h = mod_below x 256 (lit< tt)
 byte_chosen false x y h = h
 
 memory_below : (m : ℕ → ℕ) (at n word x : ℕ) → ((y : ℕ) → m y < 256) → with_word m at n word x < 256
-memory_below m at n word x h = byte_chosen (nat_lt (offset_from at x) n) (word / 256 ^ offset_from at x) (m x) (h x)
+memory_below m at n word x h =
+    rw (with_word-if m at n word x) (byte_chosen (nat_lt (offset_from at x) n) (word / 256 ^ offset_from at x) (m x) (h x))
 
 write_ranged : (w : ℕ) (s : Machine) (o : Operand) (word : ℕ) → IsWidth w → HasRegisters o → word < 2 ^ w → IsState s → IsState (with_value w s o word)
 write_ranged w s (Reg n width) word h low small state = record {

@@ -7,6 +7,7 @@ use Rattle.machine.specs.Kept.{AreOrdered, byte_of, memory_of, spans_address}
 use Rattle.machine.specs.Machine.{address_plus, offset_from}
 use Rattle.machine.specs.Memory.{word_at, with_word}
 use Rattle.machine.specs.Spans.{HasBytes}
+use Rattle.machine.proofs.MemoryWords.{with_word-if, word_at-suc}
 use Rattle.machine.proofs.Ordering.{order_ends, byte_within, byte_written, addressed_from, not_addressed_from}
 
 pub offset_above : (at x : ℕ) → at ≤ x → x < 2 ^ 64 → offset_from at x ≡ x - at
@@ -37,7 +38,7 @@ word_within spans i at (suc n) span o e from to =
     let here : address_plus (at - span.at) n ≡ at + n - span.at = omega arith in
     let there : address_plus at n % 2 ^ 64 ≡ at + n = omega arith in
     let byte : byte_of spans (at + n) ≡ slice_index span.bytes.items (at + n - span.at) = byte_within 0 spans i span (at + n) o e (omega arith) (omega arith) in
-    rw (word_within spans i at n span o e from (omega arith), here, there, byte) refl
+    rw (word_at-suc (slice_index span.bytes.items) (at - span.at) n, word_at-suc (memory_of spans) at n, word_within spans i at n span o e from (omega arith), here, there, byte) refl
 
 inside_choice : (f : ℕ → ℕ) (m from y o n : ℕ) → (from ≤ y → o ≡ y - from) → (y < from → n ≤ o)
     → (if nat_le from y && nat_lt (y - from) n then f (y - from) else m) ≡ (if nat_lt o n then f o else m)
@@ -60,8 +61,9 @@ span_written spans i at n word span new x o e from to same len bytes small =
     let ends : span.at + length span.bytes.items ≤ 2 ^ 64 = order_ends 0 spans i span o e in
     let f : ℕ → ℕ = λ k. word / 256 ^ k % 256 in
     let y : ℕ = x - span.at in
+    let written : ℕ = if nat_lt (offset_from at x) n then f (offset_from at x) else byte_of spans x in
     byte_written 0 spans i span new x o e same len
-    ∙ elim (spans_address span x) as (λ v. spans_address span x ≡ v → (if v then slice_index new.bytes.items y else byte_of spans x) ≡ with_word (byte_of spans) at n word x) [
+    ∙ elim (spans_address span x) as (λ v. spans_address span x ≡ v → (if v then slice_index new.bytes.items y else byte_of spans x) ≡ written) [
       | true ↦ (λ t.
           let here = addressed_from span x t in
           let low : span.at ≤ x = here.0 in
@@ -70,3 +72,4 @@ span_written spans i at n word span new x o e from to same len bytes small =
       | false ↦ (λ t.
           outside_choice f (byte_of spans x) (offset_from at x) n (outside_offset span.at (length span.bytes.items) at n x (not_addressed_from span x t) from to ends small))
     ] refl
+    ∙ sym (with_word-if (byte_of spans) at n word x)

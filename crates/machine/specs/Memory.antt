@@ -1,12 +1,31 @@
--- Words in a memory that has a byte at each address, lowest byte first. Addresses wrap at 2^64.
-use Rattle.std.specs.Prelude.{ℕ, zero, suc, ◌+◌, ◌*◌, ◌/◌, ◌%◌, ◌^◌, nat_lt, if◌then◌else◌}
+-- Words in a memory that has a byte at each address. A word's lowest byte lies at its lowest address (Intel SDM volume 1,
+-- 1.3.1, bit and byte order). Addresses are calculated with 64 bits, so they wrap at 2^64 (volume 1, 3.3.7).
+use Rattle.std.specs.Prelude.{ℕ, zero, suc, ◌+◌, ◌*◌, ◌/◌, ◌%◌, List, [], ◌∷◌, ◌++◌, get_or}
 use Rattle.machine.specs.Machine.{address_plus, offset_from}
+
+-- the n bytes from an address on
+abbrev pub bytes_at : (ℕ → ℕ) → ℕ → ℕ → List ℕ
+bytes_at memory at zero = []
+bytes_at memory at (suc n) = bytes_at memory at n ++ memory (address_plus at n) ∷ []
+
+-- the memory after a write of bytes from an address on; every other byte stays
+abbrev pub with_bytes : (ℕ → ℕ) → ℕ → List ℕ → ℕ → ℕ
+with_bytes memory at bytes x = get_or bytes (offset_from at x) (memory x)
+
+-- the number that bytes make, lowest first
+abbrev pub number_of_bytes : List ℕ → ℕ
+number_of_bytes [] = 0
+number_of_bytes (byte ∷ bytes) = byte + 256 * number_of_bytes bytes
+
+-- the n low bytes of a number, lowest first
+abbrev pub bytes_of_number : ℕ → ℕ → List ℕ
+bytes_of_number zero word = []
+bytes_of_number (suc n) word = word % 256 ∷ bytes_of_number n (word / 256)
 
 -- the word of n bytes from an address on
 abbrev pub word_at : (ℕ → ℕ) → ℕ → ℕ → ℕ
-word_at memory at zero = 0
-word_at memory at (suc n) = word_at memory at n + memory (address_plus at n) * 256 ^ n
+word_at memory at n = number_of_bytes (bytes_at memory at n)
 
--- the memory after a write of n bytes of a word from an address on
+-- the memory after a write of the n low bytes of a word from an address on
 abbrev pub with_word : (ℕ → ℕ) → ℕ → ℕ → ℕ → ℕ → ℕ
-with_word memory at n word x = if nat_lt (offset_from at x) n then word / 256 ^ offset_from at x % 256 else memory x
+with_word memory at n word = with_bytes memory at (bytes_of_number n word)

@@ -1,7 +1,8 @@
 -- What a run does along a path of places and on into the next place, over states of any kind.
-use Rattle.std.specs.Prelude.{◌≡◌, ℕ, ◌==◌, Bool, true, ◌&&◌, List, [], ◌∷◌, Option, Some, None, if◌then◌else◌}
+use Rattle.std.specs.Prelude.{◌≡◌, ℕ, suc, ◌==◌, ◌<◌, ◌≤◌, Bool, true, false, ◌&&◌, List, [], ◌∷◌, length, Option, Some, None, if◌then◌else◌}
 use Rattle.machine.specs.Run.{Step, Goes, Returns, Faults, MeetsUnset, run_of}
-use Rattle.machine.specs.declared.state.RunEnd.TheVariants.{Faulted}
+use Rattle.machine.specs.declared.state.RunEnd.TheVariants.{Faulted, Running}
+use Rattle.machine.specs.Step.{closed}
 
 pub data Way (S : Type 0) : Type 0 where
   Through : S → Way S  -- each step of the path was taken, and it stands at the next place
@@ -41,18 +42,26 @@ abbrev pub allowed_along : {S : Type 0} → (S → Bool) → (S → Step S) → 
 allowed_along allows free [] s = true
 allowed_along allows free (p ∷ ps) s = allows s && allowed_after (free s) (allowed_along allows free ps)
 
--- where the free run arrives, the run is it where every test holds, and falls otherwise
-abbrev pub by_test : {S : Type 0} → Bool → Way S → Way S
-by_test holds w = if holds then w else Fell
-
 abbrev pub Arrived : {S : Type 0} → Way S → Type 0
 Arrived (Through t) = Unit {0}
 Arrived (Back t) = Unit {0}
 Arrived Fell = ⊥
 Arrived Off = ⊥
 
--- a run that faults within n steps
+-- the run faults by one of its first n steps
 pub record FallsWithin {S : Type 0} (step : S → Step S) (s : S) (n : ℕ) : Type 0 where
   pub at : S
   pub number : ℕ
-  pub run : run_of step s n ≡ (at, Faulted number)
+  pub within : number ≤ n
+  pub run : run_of step s number ≡ (at, Faulted number)
+
+-- The run under the tests faults at the first step of a path whose test fails: the steps before it are those of the free
+-- run, and their tests hold.
+pub record FallsAtFirst {S : Type 0} (allows : S → Bool) (free : S → Step S) (path : List ℕ) (s : S) : Type 0 where
+  pub steps : ℕ
+  pub on_path : steps < length path
+  pub at : S
+  pub before : run_of free s steps ≡ (at, Running)
+  pub allowed : (k : ℕ) → k < steps → allows (run_of free s k).0 ≡ true
+  pub forbidden : allows at ≡ false
+  pub run : run_of (closed allows free) s (suc steps) ≡ (at, Faulted (suc steps))

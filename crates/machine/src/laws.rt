@@ -1,12 +1,13 @@
-ghost use Rattle.std.specs.Prelude.{◌≡◌, ℕ, ◌+◌, ◌*◌, ◌<◌, List, Option, length, max, slice_index};
+ghost use Rattle.std.specs.Prelude.{◌≡◌, ℕ, ◌+◌, ◌*◌, ◌%◌, ◌^◌, ◌<◌, ◌≤◌, true, false, List, Option, length, max, slice_index};
 ghost use Rattle.insn_table.specs.declared.insn.Insn.{Insn};
 ghost use Rattle.insn_table.specs.Plain.{IsPlain};
 ghost use Rattle.insn_table.specs.Closed.{IsClosed};
 ghost use Rattle.machine.specs.Difference.{SamePlainEnd};
 ghost use Rattle.machine.specs.Equivalent.{AreEquivalent};
 ghost use Rattle.machine.specs.Frame.{SameFrame, SameUnwritable};
-ghost use Rattle.machine.specs.Machine.{IsPlainStart, IsState, Machine};
-ghost use Rattle.machine.specs.Path.{Arrived, Back, FallsWithin, Fell, Through, allowed_along, by_test, way};
+ghost use Rattle.machine.specs.Machine.{IsPlainStart, IsState, Machine, offset_from};
+ghost use Rattle.machine.specs.Memory.{bytes_at, bytes_of_number, number_of_bytes, with_bytes};
+ghost use Rattle.machine.specs.Path.{Arrived, Back, FallsAtFirst, FallsWithin, Fell, Through, allowed_along, way};
 ghost use Rattle.machine.specs.Run.{Goes, IsOver, later, run_of};
 ghost use Rattle.machine.specs.declared.state.RunEnd.{RunEnd};
 ghost use Rattle.machine.specs.declared.state.RunEnd.TheVariants.{Returned, Running};
@@ -39,18 +40,22 @@ pub fn run_law()
         → run_of (step_of insns pool) s (l + m) ≡ later l (run_of (step_of insns pool) t m) }
 {}
 
-/// The law of a path: where the free run arrives, the run under the tests is the same where every
-/// test along the path holds, and falls otherwise. It does nothing.
+/// The law of a path along which the free run arrives: where every test along it holds, the run under
+/// the tests goes the same way; otherwise it faults at the first test that fails. It does nothing.
 pub fn path_law()
-    ensures { (insns : List Insn) (pool : List ℕ) (path : List ℕ) (next : Option ℕ) (s : Machine)
+    ensures holds { (insns : List Insn) (pool : List ℕ) (path : List ℕ) (next : Option ℕ) (s : Machine)
         → Arrived (way (λ t. t.place) (free_step insns pool) path next s)
-        → way (λ t. t.place) (step_of insns pool) path next s
-        ≡ by_test (allowed_along (allows_step insns) (free_step insns pool) path s) (way (λ t. t.place) (free_step insns pool) path next s) }
+        → allowed_along (allows_step insns) (free_step insns pool) path s ≡ true
+        → way (λ t. t.place) (step_of insns pool) path next s ≡ way (λ t. t.place) (free_step insns pool) path next s }
+    ensures falls { (insns : List Insn) (pool : List ℕ) (path : List ℕ) (next : Option ℕ) (s : Machine)
+        → Arrived (way (λ t. t.place) (free_step insns pool) path next s)
+        → allowed_along (allows_step insns) (free_step insns pool) path s ≡ false
+        → (way (λ t. t.place) (step_of insns pool) path next s ≡ Fell) × FallsAtFirst (allows_step insns) (free_step insns pool) path s }
 {}
 
 /// The law of what a way says of the run: one that is through still goes on after as many steps as
 /// the path has places, and stands at the next place; one that is back has returned by the last of
-/// them; one that fell has faulted within them. It does nothing.
+/// them; one that fell has faulted by one of them. It does nothing.
 pub fn way_law()
     ensures through { (insns : List Insn) (pool : List ℕ) (path : List ℕ) (next : Option ℕ) (s t : Machine)
         → way (λ u. u.place) (step_of insns pool) path next s ≡ Through t
@@ -60,6 +65,16 @@ pub fn way_law()
         → run_of (step_of insns pool) s (length path) ≡ (t, Returned (length path)) }
     ensures fell { (insns : List Insn) (pool : List ℕ) (path : List ℕ) (next : Option ℕ) (s : Machine)
         → way (λ u. u.place) (step_of insns pool) path next s ≡ Fell → FallsWithin (step_of insns pool) s (length path) }
+{}
+
+/// The law of a memory: bytes that were written are read back, each byte past them stays as it was,
+/// and the n low bytes of a number make the number modulo 256^n. It does nothing.
+pub fn memory_law()
+    ensures read_back { (memory : ℕ → ℕ) (at : ℕ) (bytes : List ℕ) → at < 2 ^ 64 → length bytes ≤ 2 ^ 64
+        → bytes_at (with_bytes memory at bytes) at (length bytes) ≡ bytes }
+    ensures others { (memory : ℕ → ℕ) (at : ℕ) (bytes : List ℕ) (x : ℕ) → length bytes ≤ offset_from at x
+        → with_bytes memory at bytes x ≡ memory x }
+    ensures number { (n word : ℕ) → number_of_bytes (bytes_of_number n word) ≡ word % 256 ^ n }
 {}
 
 /// The law of what a step and a run leave as it was: the entry registers, the regions, the stack

@@ -14,7 +14,7 @@ mod tests;
 
 pub use difference::{Difference, difference_law};
 pub use laws::{
-    path_law, plain_functions_agree, plain_functions_return, run_law, state_law, step_frame_law,
-    way_law,
+    memory_law, path_law, plain_functions_agree, plain_functions_return, run_law, state_law,
+    step_frame_law, way_law,
 };
 pub use state::{Region, RunEnd, Span, State, StepEnd};

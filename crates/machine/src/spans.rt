@@ -35,6 +35,7 @@ pub fn word_of(spans: &[Span], at: u64, n: u32) -> u64
 }
 
 /// The word of the `n` bytes of a list from `from` on; a byte past its end is 0.
+#[tactic(auto, using(crate::proofs::MemoryWords::memory_words))]
 pub fn word_in(bytes: &[u8], from: usize, n: u32) -> u64
     requires few { n ≤ 8 }
     requires from { from + n ≤ 2 ^ 64 }
@@ -49,6 +50,7 @@ pub fn word_in(bytes: &[u8], from: usize, n: u32) -> u64
 }
 
 // The same over spans, where the bytes may lie in several or in none.
+#[tactic(auto, using(crate::proofs::MemoryWords::memory_words))]
 fn word_by_bytes(spans: &[Span], at: u64, n: u32) -> u64
     requires { n ≤ 8 }
     ensures value { result ≡ word_at (memory_of spans.now) at n }
@@ -110,6 +112,7 @@ fn span_with(spans: &[Span], at: u64, n: u64) -> Option<usize>
 }
 
 /// Writes the `n` low bytes of a word from an address on.
+#[tactic(auto, using(crate::proofs::MemoryWords::memory_words))]
 pub fn put_word(spans: &mut Vec<Span>, at: u64, n: u32, word: u64)
     requires few { n ≤ 8 }
     requires ordered { AreOrdered 0 spans.old.items }
@@ -121,6 +124,7 @@ pub fn put_word(spans: &mut Vec<Span>, at: u64, n: u32, word: u64)
 }
 
 // The same, byte by byte of the memory below 2^64.
+#[tactic(auto, using(crate::proofs::MemoryWords::memory_words))]
 fn put_bytes(spans: &mut Vec<Span>, at: u64, n: u32, word: u64)
     requires few { n ≤ 8 }
     requires ordered { AreOrdered 0 spans.old.items }
@@ -137,6 +141,7 @@ fn put_bytes(spans: &mut Vec<Span>, at: u64, n: u32, word: u64)
 }
 
 // Writes one byte.
+#[tactic(auto, using(crate::proofs::MemoryWords::memory_words))]
 fn put_byte(spans: &mut Vec<Span>, at: u64, byte: u8)
     requires ordered { AreOrdered 0 spans.old.items }
     requires spanned { is_spanned spans.old.items at ≡ true }
