@@ -12,9 +12,9 @@ use Rattle.machine.specs.Access.{allows}
 use Rattle.machine.specs.Family.{family_of, holds_of}
 use Rattle.machine.specs.Kept.{Kept}
 use Rattle.machine.specs.Machine.{Machine}
-use Rattle.machine.specs.Run.{Step, Goes, Returns, Faults, MeetsUnset}
+use Rattle.machine.specs.Run.{Step, Goes, Returns, Faults, MeetsUnset, tested}
 use Rattle.machine.specs.Runnable.{IsRunnableFunction, JumpsBelow}
-use Rattle.machine.specs.Step.{allows_at, changed, conditional, free_at, goes, gone, insn_step, jump_place, leads_to, step_of, tested}
+use Rattle.machine.specs.Step.{allows_at, changed, conditional, free_at, goes, gone, insn_step, jump_place, leads_to, step_of}
 use Rattle.machine.specs.Operands.{operand}
 use Rattle.machine.specs.Stepping.{StepsAs}
 

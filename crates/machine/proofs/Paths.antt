@@ -1,8 +1,8 @@
 -- Paths over states of any kind: what a way says of the run, and what the tests make of a way of the free step.
 use Rattle.std.proofs.Common.{◌≡◌, ℕ, zero, suc, ◌+◌, ◌==◌, ◌<◌, Bool, true, false, ◌&&◌, List, [], ◌∷◌, length, Option, None, Some, if◌then◌else◌, refl, sym, ◌∙◌, ap, eqb-true, arith}
 use Rattle.machine.specs.Path.{Arrived, FallsAtFirst, FallsWithin, Way, Through, Back, Fell, Off, allowed_after, allowed_along, rested, walked, way}
-use Rattle.machine.specs.Run.{Run, Step, Goes, Returns, Faults, MeetsUnset, ended_by, later, run_of}
-use Rattle.machine.specs.Step.{closed, tested}
+use Rattle.machine.specs.Run.{Run, Step, Goes, Returns, Faults, MeetsUnset, ended_by, later, run_of, guarded, tested}
+
 use Rattle.machine.specs.declared.state.RunEnd.{RunEnd}
 use Rattle.machine.specs.declared.state.RunEnd.TheVariants.{Returned, Faulted, Unset, Running}
 use Rattle.machine.proofs.Runs.{run-goes}
@@ -17,50 +17,50 @@ abbrev by_test : {S : Type 0} → Bool → Way S → Way S
 by_test holds w = if holds then w else Fell
 
 -- one step of a path under the test: the rest of it is as by the free step, or falls
-closed-walked : {S : Type 0} (holds : Bool) (p : Step S) (s : S) (left : List ℕ) (next : Option ℕ) (rest free_rest : S → Way S) (after : S → Bool)
+guarded-walked : {S : Type 0} (holds : Bool) (p : Step S) (s : S) (left : List ℕ) (next : Option ℕ) (rest free_rest : S → Way S) (after : S → Bool)
     → ((t : S) → Arrived (free_rest t) → rest t ≡ by_test (after t) (free_rest t))
     → Arrived (walked p s left next free_rest)
     → walked (tested holds p) s left next rest ≡ by_test (holds && allowed_after p after) (walked p s left next free_rest)
-closed-walked true (Goes t) s left next rest free_rest after more h = more t h
-closed-walked true Returns s left next rest free_rest after more h = refl
-closed-walked true Faults s left next rest free_rest after more h = absurd h
-closed-walked true MeetsUnset s left next rest free_rest after more h = absurd h
-closed-walked false (Goes t) s left next rest free_rest after more h = refl
-closed-walked false Returns s left next rest free_rest after more h = refl
-closed-walked false Faults s left next rest free_rest after more h = absurd h
-closed-walked false MeetsUnset s left next rest free_rest after more h = absurd h
+guarded-walked true (Goes t) s left next rest free_rest after more h = more t h
+guarded-walked true Returns s left next rest free_rest after more h = refl
+guarded-walked true Faults s left next rest free_rest after more h = absurd h
+guarded-walked true MeetsUnset s left next rest free_rest after more h = absurd h
+guarded-walked false (Goes t) s left next rest free_rest after more h = refl
+guarded-walked false Returns s left next rest free_rest after more h = refl
+guarded-walked false Faults s left next rest free_rest after more h = absurd h
+guarded-walked false MeetsUnset s left next rest free_rest after more h = absurd h
 
-closed-first : {S : Type 0} (b holds : Bool) (w v : Way S) → (Arrived v → w ≡ by_test holds v) → Arrived (if b then v else Off)
+guarded-first : {S : Type 0} (b holds : Bool) (w v : Way S) → (Arrived v → w ≡ by_test holds v) → Arrived (if b then v else Off)
     → (if b then w else Off) ≡ by_test holds (if b then v else Off)
-closed-first true holds w v more h = more h
-closed-first false holds w v more h = absurd h
+guarded-first true holds w v more h = more h
+guarded-first false holds w v more h = absurd h
 
 -- Where the free run arrives, the run is it where every test holds, and falls otherwise.
-way-closed : {S : Type 0} (place : S → ℕ) (allows : S → Bool) (free : S → Step S) (path : List ℕ) (next : Option ℕ) (s : S)
+way-guarded : {S : Type 0} (place : S → ℕ) (allows : S → Bool) (free : S → Step S) (path : List ℕ) (next : Option ℕ) (s : S)
     → Arrived (way place free path next s)
-    → way place (closed allows free) path next s ≡ by_test (allowed_along allows free path s) (way place free path next s)
-way-closed place allows free [] next s h = refl
-way-closed place allows free (p ∷ ps) next s h =
-    closed-first (place s == p) (allowed_along allows free (p ∷ ps) s)
-    (walked (closed allows free s) s ps next (way place (closed allows free) ps next))
+    → way place (guarded allows free) path next s ≡ by_test (allowed_along allows free path s) (way place free path next s)
+way-guarded place allows free [] next s h = refl
+way-guarded place allows free (p ∷ ps) next s h =
+    guarded-first (place s == p) (allowed_along allows free (p ∷ ps) s)
+    (walked (guarded allows free s) s ps next (way place (guarded allows free) ps next))
     (walked (free s) s ps next (way place free ps next))
-    (closed-walked (allows s) (free s) s ps next (way place (closed allows free) ps next) (way place free ps next) (allowed_along allows free ps)
-    (λ t. way-closed place allows free ps next t))
+    (guarded-walked (allows s) (free s) s ps next (way place (guarded allows free) ps next) (way place free ps next) (allowed_along allows free ps)
+    (λ t. way-guarded place allows free ps next t))
     h
 
 -- where it arrives and each test holds, the run is the free run
 pub way-allowed : {S : Type 0} (place : S → ℕ) (allows : S → Bool) (free : S → Step S) (path : List ℕ) (next : Option ℕ) (s : S)
     → Arrived (way place free path next s) → allowed_along allows free path s ≡ true
-    → way place (closed allows free) path next s ≡ way place free path next s
+    → way place (guarded allows free) path next s ≡ way place free path next s
 way-allowed place allows free path next s h holds =
-    way-closed place allows free path next s h ∙ ap (λ (b : Bool). by_test b (way place free path next s)) holds
+    way-guarded place allows free path next s h ∙ ap (λ (b : Bool). by_test b (way place free path next s)) holds
 
 -- where it arrives and a test fails, the run falls,
 pub way-falls : {S : Type 0} (place : S → ℕ) (allows : S → Bool) (free : S → Step S) (path : List ℕ) (next : Option ℕ) (s : S)
     → Arrived (way place free path next s) → allowed_along allows free path s ≡ false
-    → way place (closed allows free) path next s ≡ Fell
+    → way place (guarded allows free) path next s ≡ Fell
 way-falls place allows free path next s h fails =
-    way-closed place allows free path next s h ∙ ap (λ (b : Bool). by_test b (way place free path next s)) fails
+    way-guarded place allows free path next s h ∙ ap (λ (b : Bool). by_test b (way place free path next s)) fails
 
 later-state : {S : Type 0} (l : ℕ) (s : S) (e : RunEnd) → (later l (s, e)).0 ≡ s
 later-state l s (Returned i) = refl
@@ -80,7 +80,7 @@ allowed-after allows free s t n holds is more (suc k) h =
 first-after : {S : Type 0} (allows : S → Bool) (free : S → Step S) (p : ℕ) (ps : List ℕ) (s t : S)
     → allows s ≡ true → free s ≡ Goes t → FallsAtFirst allows free ps t → FallsAtFirst allows free (p ∷ ps) s
 first-after allows free p ps s t holds is there =
-    let taken : closed allows free s ≡ Goes t = ap (λ (b : Bool). tested b (free s)) holds ∙ is in
+    let taken : guarded allows free s ≡ Goes t = ap (λ (b : Bool). tested b (free s)) holds ∙ is in
     let count : 1 + suc there.steps ≡ suc (suc there.steps) = omega arith in
     record {
       steps = suc there.steps;
@@ -89,7 +89,7 @@ first-after allows free p ps s t holds is there =
       before = run-goes free s t there.steps is ∙ ap (later 1) there.before;
       allowed = allowed-after allows free s t there.steps holds is there.allowed;
       forbidden = there.forbidden;
-      run = run-goes (closed allows free) s t (suc there.steps) taken ∙ ap (later 1) there.run ∙ (λ j. (there.at, Faulted (count j)));
+      run = run-goes (guarded allows free) s t (suc there.steps) taken ∙ ap (later 1) there.run ∙ (λ j. (there.at, Faulted (count j)));
     }
 
 -- the first step is the one whose test fails

@@ -12,8 +12,8 @@ use Rattle.machine.specs.Family.{family_of, holds_of}
 use Rattle.machine.specs.Frame.{SameFrame}
 use Rattle.machine.specs.Machine.{AreRegs, IsPlainStart, Machine, entry_pointer}
 use Rattle.machine.specs.Operands.{operand}
-use Rattle.machine.specs.Run.{Goes, Returns, run_of}
-use Rattle.machine.specs.Step.{conditional, goes, step_of, tested}
+use Rattle.machine.specs.Run.{Goes, Returns, run_of, tested}
+use Rattle.machine.specs.Step.{conditional, goes, step_of}
 use Rattle.machine.specs.Straight.{computed, regs_after, regs_through, value_at, written}
 use Rattle.machine.specs.declared.state.RunEnd.TheVariants.{Returned, Running}
 use Rattle.machine.proofs.Keeping.{move_keeps_regs}

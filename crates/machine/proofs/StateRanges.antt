@@ -20,9 +20,9 @@ use Rattle.machine.specs.Family.{family_of}
 use Rattle.machine.specs.Machine.{AreRegs, IsState, Machine, address_plus, offset_from}
 use Rattle.machine.specs.Memory.{with_word, word_at}
 use Rattle.machine.specs.Operands.{effective, merged, operand, value_of, with_value}
-use Rattle.machine.specs.Run.{Step, Goes, run_of}
+use Rattle.machine.specs.Run.{Step, Goes, run_of, tested}
 use Rattle.machine.specs.Runnable.{IsRunnable, IsRunnableFunction, IsWidth}
-use Rattle.machine.specs.Step.{after_row, allows_at, changed, free_at, free_insn, insn_step, tested, destination_of, destination_value, register_number, result_of, row_leaves, source_of, source_value, step_of, target_of}
+use Rattle.machine.specs.Step.{after_row, allows_at, changed, free_at, free_insn, insn_step, destination_of, destination_value, register_number, result_of, row_leaves, source_of, source_value, step_of, target_of}
 use Rattle.machine.proofs.Bytewise.{byte_in_front}
 use Rattle.machine.proofs.Families.{step_at}
 use Rattle.machine.proofs.Frames.{LeadsTo, free-leads, tested-leads}

@@ -1,8 +1,8 @@
 -- What a run does along a path of places and on into the next place, over states of any kind.
 use Rattle.std.specs.Prelude.{◌≡◌, ℕ, suc, ◌==◌, ◌<◌, ◌≤◌, Bool, true, false, ◌&&◌, List, [], ◌∷◌, length, Option, Some, None, if◌then◌else◌}
-use Rattle.machine.specs.Run.{Step, Goes, Returns, Faults, MeetsUnset, run_of}
+use Rattle.machine.specs.Run.{Step, Goes, Returns, Faults, MeetsUnset, run_of, guarded}
 use Rattle.machine.specs.declared.state.RunEnd.TheVariants.{Faulted, Running}
-use Rattle.machine.specs.Step.{closed}
+
 
 pub data Way (S : Type 0) : Type 0 where
   Through : S → Way S  -- each step of the path was taken, and it stands at the next place
@@ -64,4 +64,4 @@ pub record FallsAtFirst {S : Type 0} (allows : S → Bool) (free : S → Step S)
   pub before : run_of free s steps ≡ (at, Running)
   pub allowed : (k : ℕ) → k < steps → allows (run_of free s k).0 ≡ true
   pub forbidden : allows at ≡ false
-  pub run : run_of (closed allows free) s (suc steps) ≡ (at, Faulted (suc steps))
+  pub run : run_of (guarded allows free) s (suc steps) ≡ (at, Faulted (suc steps))

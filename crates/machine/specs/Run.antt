@@ -1,5 +1,5 @@
 -- Steps and runs, over states of any kind.
-use Rattle.std.specs.Prelude.{ℕ, zero, suc, ◌+◌}
+use Rattle.std.specs.Prelude.{ℕ, zero, suc, ◌+◌, Bool, true, false}
 use Rattle.machine.specs.declared.state.RunEnd.{RunEnd}
 use Rattle.machine.specs.declared.state.RunEnd.TheVariants.{Returned, Faulted, Unset, Running}
 
@@ -9,6 +9,18 @@ pub data Step (S : Type 0) : Type 0 where
   Returns : Step S
   Faults : Step S
   MeetsUnset : Step S
+
+-- An unset flag is met before a test that fails.
+abbrev pub tested : {S : Type 0} → Bool → Step S → Step S
+tested true step = step
+tested false (Goes next) = Faults
+tested false Returns = Faults
+tested false Faults = Faults
+tested false MeetsUnset = MeetsUnset
+
+-- a step where each test must hold
+abbrev pub guarded : {S : Type 0} → (S → Bool) → (S → Step S) → S → Step S
+guarded allows free s = tested (allows s) (free s)
 
 -- where a run has come to, and how it has ended, if it has
 abbrev pub Run : Type 0 → Type 0

@@ -4,7 +4,7 @@
 --
 -- What a row computes and which flags it leaves is said in instruction_semantics, with the sections of Intel's Software
 -- Developer's Manual, volume 2.
-use Rattle.std.specs.Prelude.{ℕ, zero, suc, ◌+◌, ◌-◌, ◌==◌, Bool, true, false, List, Option, Some, None, slice_get, slice_index, slice_set, if◌then◌else◌}
+use Rattle.std.specs.Prelude.{ℕ, zero, suc, ◌+◌, ◌-◌, ◌==◌, Bool, true, List, Option, Some, None, slice_get, slice_index, slice_set, if◌then◌else◌}
 use Rattle.align_base.specs.declared.op.Op.{Op}
 use Rattle.align_base.specs.declared.op.Op.TheVariants as ops
 use Rattle.insn_table.specs.declared.insn.Insn.{Insn}
@@ -21,7 +21,7 @@ use Rattle.machine.specs.Family.{family_of, holds_of}
 use Rattle.machine.specs.Machine.{Machine, address_plus, offset_from}
 use Rattle.machine.specs.Memory.{with_word, word_at}
 use Rattle.machine.specs.Operands.{address_of, operand, value_of, with_value}
-use Rattle.machine.specs.Run.{Step, Goes, Returns, Faults, MeetsUnset}
+use Rattle.machine.specs.Run.{Step, Goes, Returns, Faults, MeetsUnset, guarded, tested}
 
 -- The operands of a row by their number: of one operand it is the destination; of two the second is the destination and
 -- the first the source; of three the third is written with what the second and the first give. `cltq` has none and is
@@ -125,7 +125,7 @@ abbrev pub conditional : Option Bool → (Bool → Step Machine) → Step Machin
 conditional None goes = MeetsUnset
 conditional (Some holds) goes = goes holds
 
--- the free step of an instruction
+-- the free step of an instruction, which takes every test as met
 abbrev pub free_insn : List ℕ → Insn → Machine → Step Machine
 free_insn pool i s = conditional (holds_of i.op s.flags) (goes (family_of i.op) pool i s)
 
@@ -144,22 +144,10 @@ allows_at (Some i) s = allows i s
 abbrev pub allows_step : List Insn → Machine → Bool
 allows_step insns s = allows_at (slice_get insns s.place) s
 
--- An unset flag is met before a test that fails.
-abbrev pub tested : {S : Type 0} → Bool → Step S → Step S
-tested true step = step
-tested false (Goes next) = Faults
-tested false Returns = Faults
-tested false Faults = Faults
-tested false MeetsUnset = MeetsUnset
-
--- the step of an instruction
+-- the step of an instruction, under its tests
 abbrev pub insn_step : List ℕ → Insn → Machine → Step Machine
 insn_step pool i s = tested (allows i s) (free_insn pool i s)
 
--- a step where each test must hold
-abbrev pub closed : {S : Type 0} → (S → Bool) → (S → Step S) → S → Step S
-closed allows free s = tested (allows s) (free s)
-
 -- one step of a function of these instructions with this pool
 abbrev pub step_of : List Insn → List ℕ → Machine → Step Machine
-step_of insns pool = closed (allows_step insns) (free_step insns pool)
+step_of insns pool = guarded (allows_step insns) (free_step insns pool)
