@@ -55,46 +55,21 @@ byte_after i at = next_of (step_of (i ∷ []) [] start) (λ t. t.memory at)
 abbrev end_by : Insn → RunEnd
 end_by i = end_of (step_of (i ∷ []) []) start 1
 
--- mov %ecx, %eax clears the upper half; mov %cx, %ax and %cl, %al keep it
+-- mov %ecx, %eax clears the upper half
 half_cleared : reg_after (two ops.Mov 32 (Reg 1 32) (Reg 0 32)) 0 ≡ 5
 half_cleared = refl
 
-word_kept : reg_after (two ops.Mov 16 (Reg 1 16) (Reg 0 16)) 0 ≡ 0xffffffffffff0005
-word_kept = refl
-
-byte_kept : reg_after (two ops.Mov 8 (Reg 1 8) (Reg 0 8)) 0 ≡ 0xffffffffffffff05
-byte_kept = refl
-
--- push %rsp
-push_moves : reg_after (one ops.Push 64 (Reg 4 64)) 4 ≡ 0x7ff8
-push_moves = refl
-
+-- push %rsp stores the old pointer, 0x8000
 push_old_high : byte_after (one ops.Push 64 (Reg 4 64)) 0x7ff9 ≡ 0x80
 push_old_high = refl
-
-push_old_low : byte_after (one ops.Push 64 (Reg 4 64)) 0x7ff8 ≡ 0
-push_old_low = refl
-
-push_slot_kept : byte_after (one ops.Push 64 (Reg 4 64)) 0x8000 ≡ 0
-push_slot_kept = refl
 
 -- pop at the entry faults: the return slot is no declared byte
 pop_slot_faults : end_by (one ops.Pop 64 (Reg 1 64)) ≡ Faulted 1
 pop_slot_faults = refl
 
--- three pushes on 16 bytes
-third_push_faults : end_of (step_of (one ops.Push 64 (Reg 1 64) ∷ one ops.Push 64 (Reg 2 64) ∷ one ops.Push 64 (Reg 3 64) ∷ []) []) start 5 ≡ Faulted 3
-third_push_faults = refl
-
--- push rcx, pop rsp: leaves the value read
-pop_pointer : slice_index (run_of (step_of (one ops.Push 64 (Reg 1 64) ∷ one ops.Pop 64 (Reg 4 64) ∷ []) []) start 2).0.regs 4 ≡ 5
-pop_pointer = refl
-
+-- push rcx, pop rdx, ret
 popped_returns : end_of (step_of (one ops.Push 64 (Reg 1 64) ∷ one ops.Pop 64 (Reg 2 64) ∷ none ops.Ret 64 ∷ []) []) start 5 ≡ Returned 3
 popped_returns = refl
-
-popped_value : slice_index (run_of (step_of (one ops.Push 64 (Reg 1 64) ∷ one ops.Pop 64 (Reg 2 64) ∷ none ops.Ret 64 ∷ []) []) start 5).0.regs 2 ≡ 5
-popped_value = refl
 
 -- cmov with an unset flag, before the fault of its memory operand
 unset_before_fault : end_by (two (ops.Cmov conds.E) 64 (Mem (Some 1) None 1 (pos 0)) (Reg 0 64)) ≡ Unset 1
@@ -109,53 +84,16 @@ compared_flags : (run_of (step_of (two ops.Cmp 64 (Reg 1 64) (Reg 0 64) ∷ []) 
 unfolding flags_after
 compared_flags = refl
 
--- add %rcx, (%rdx): bytes 0x100 .. 0x107 are 00 01 .. 07
-sum_low : byte_after (two ops.Add 64 (Reg 1 64) (Mem (Some 2) None 1 (pos 0))) 0x100 ≡ 5
-sum_low = refl
-
-sum_high : byte_after (two ops.Add 64 (Reg 1 64) (Mem (Some 2) None 1 (pos 0))) 0x107 ≡ 7
-sum_high = refl
-
-sum_beyond : byte_after (two ops.Add 64 (Reg 1 64) (Mem (Some 2) None 1 (pos 0))) 0x108 ≡ 8
-sum_beyond = refl
-
--- read only region: a write faults, a read goes; past its end faults
+-- a region that may be read alone: a write faults, and a read past its end
 read_only_faults : end_by (two ops.Add 64 (Reg 1 64) (Mem (Some 3) None 1 (pos 0))) ≡ Faulted 1
 read_only_faults = refl
-
-read_only_read : reg_after (two ops.Mov 64 (Mem (Some 3) None 1 (pos 0)) (Reg 0 64)) 0 ≡ 0x0706050403020100
-read_only_read = refl
 
 end_faults : end_by (two ops.Mov 64 (Mem (Some 3) None 1 (pos 1)) (Reg 0 64)) ≡ Faulted 1
 end_faults = refl
 
-end_read : end_by (two ops.Mov 32 (Mem (Some 3) None 1 (pos 4)) (Reg 0 32)) ≡ Running
-end_read = refl
-
-before_faults : end_by (two ops.Mov 32 (Mem (Some 3) None 1 (negsuc 0)) (Reg 0 32)) ≡ Faulted 1
-before_faults = refl
-
--- lea reaches anywhere; movzx, movsx, cltq, neg, set
+-- lea reaches anywhere, and is cut to 32 bits
 lea_cut : reg_after (two ops.Lea 32 (Mem (Some 0) (Some 1) 4 (negsuc 0)) (Reg 2 32)) 2 ≡ 18
 lea_cut = refl
-
-zeros_extended : reg_after (two (ops.Movzx 8) 32 (Mem (Some 3) None 1 (pos 7)) (Reg 0 32)) 0 ≡ 7
-zeros_extended = refl
-
-sign_extended : reg_after (two (ops.Movsx 8) 16 (Reg 0 8) (Reg 1 16)) 1 ≡ 0xffff
-sign_extended = refl
-
-cltq_extended : reg_after (none ops.Cltq 64) 0 ≡ 0xffffffffffffffff
-cltq_extended = refl
-
-negated : reg_after (one ops.Neg 64 (Reg 1 64)) 1 ≡ 0xfffffffffffffffb
-negated = refl
-
-set_unset : end_by (one (ops.Set conds.B) 8 (Reg 0 8)) ≡ Unset 1
-set_unset = refl
-
-shifted : reg_after (two ops.Shl 64 (Imm 3) (Reg 1 64)) 1 ≡ 40
-shifted = refl
 
 -- imul of three
 three_operands : reg_after (record { op = ops.Imul; w = 32; vex = false; args = Imm 0xfffffffffffffffd ∷ Reg 1 32 ∷ Reg 0 32 ∷ Nothing ∷ []; line = 1 }) 0 ≡ 0xfffffff1

@@ -2,7 +2,6 @@
 use Rattle.std.proofs.Common.{◌≡◌, ℕ, zero, suc, ◌+◌, ◌==◌, ◌<◌, Bool, true, false, ◌&&◌, List, [], ◌∷◌, length, Option, None, Some, if◌then◌else◌, refl, sym, ◌∙◌, ap, eqb-true, arith}
 use Rattle.machine.specs.Path.{Arrived, FallsAtFirst, FallsWithin, Way, Through, Back, Fell, Off, allowed_after, allowed_along, rested, walked, way}
 use Rattle.machine.specs.Run.{Run, Step, Goes, Returns, Faults, MeetsUnset, ended_by, later, run_of, guarded, tested}
-
 use Rattle.machine.specs.declared.state.RunEnd.{RunEnd}
 use Rattle.machine.specs.declared.state.RunEnd.TheVariants.{Returned, Faulted, Unset, Running}
 use Rattle.machine.proofs.Runs.{run-goes}

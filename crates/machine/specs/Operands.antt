@@ -17,7 +17,7 @@ abbrev pub held : List ℕ → Option ℕ → ℕ
 held regs None = 0
 held regs (Some n) = slice_index regs n
 
--- the address of a memory operand: base, index times scale and displacement, modulo 2^64
+-- the address of a memory operand: base, index times scale and displacement, modulo 2^64 (Intel SDM volume 1, 3.7.5)
 abbrev pub effective : List ℕ → Option ℕ → Option ℕ → ℕ → ℤ → ℕ
 effective regs base index scale disp = (held regs base + held regs index * scale + displacement disp) % 2 ^ 64
 

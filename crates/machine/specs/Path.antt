@@ -3,7 +3,6 @@ use Rattle.std.specs.Prelude.{◌≡◌, ℕ, suc, ◌==◌, ◌<◌, ◌≤◌,
 use Rattle.machine.specs.Run.{Step, Goes, Returns, Faults, MeetsUnset, run_of, guarded}
 use Rattle.machine.specs.declared.state.RunEnd.TheVariants.{Faulted, Running}
 
-
 pub data Way (S : Type 0) : Type 0 where
   Through : S → Way S  -- each step of the path was taken, and it stands at the next place
   Back : S → Way S  -- it returned at the path's last place, and no place follows

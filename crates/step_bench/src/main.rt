@@ -8,32 +8,44 @@ mod start;
 use looping::endless_loop;
 use machine::RunEnd;
 use start::start_state;
+use std::process::ExitCode;
 use std::rt::Env;
 use std::{env, io};
 
-/// The number that the first word gives; 0 where there is no such number.
-fn steps<R: Env + AllocGlobal>(rt: &R) -> io::Result<u64> {
-    match env::args(rt)?.skip(1).next() {
-        Some(word) => Ok(word.as_str().parse::<u64>().unwrap_or(0)),
-        None => Ok(0),
+/// How many steps the first word asks for.
+fn steps<R: Env + AllocGlobal>(rt: &R) -> Option<u64> {
+    let mut words = env::args(rt).ok()?.skip(1);
+    words.next()?.as_str().parse::<u64>().ok()
+}
+
+/// The exit code after a line was printed, 1 where it could not be.
+fn told(printed: io::Result<()>, code: u8) -> ExitCode {
+    match printed {
+        Ok(()) => ExitCode::from(code),
+        Err(_) => ExitCode::from(1),
     }
 }
 
-fn main(rt: HostRuntime) -> io::Result<()> {
-    let n = steps(&rt)?;
+fn main(rt: HostRuntime) -> ExitCode {
+    let Some(n) = steps(&rt) else {
+        return told(println!(rt; "usage: step_bench STEPS"), 2);
+    };
     let Ok(function) = endless_loop(rt.alloc()) else {
-        return println!(rt; "not built");
+        return told(println!(rt; "not built"), 1);
     };
     let Ok(mut state) = start_state(rt.alloc()) else {
-        return println!(rt; "not built");
+        return told(println!(rt; "not built"), 1);
     };
-    match state.run(&function, n) {
-        RunEnd::Returned(at) => println!(rt; "returned at {at}")?,
-        RunEnd::Faulted(at) => println!(rt; "faulted at {at}")?,
-        RunEnd::Unset(at) => println!(rt; "met an unset flag at {at}")?,
-        RunEnd::Running => println!(rt; "running after {n}")?,
+    let end = match state.run(&function, n) {
+        RunEnd::Returned(at) => println!(rt; "returned at {at}"),
+        RunEnd::Faulted(at) => println!(rt; "faulted at {at}"),
+        RunEnd::Unset(at) => println!(rt; "met an unset flag at {at}"),
+        RunEnd::Running => println!(rt; "running after {n}"),
+    };
+    if end.is_err() {
+        return ExitCode::from(1);
     }
     let sum = state.reg(0);
     let index = state.reg(1);
-    println!(rt; "rax {sum}, rcx {index}")
+    told(println!(rt; "rax {sum}, rcx {index}"), 0)
 }
