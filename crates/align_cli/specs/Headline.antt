@@ -158,10 +158,16 @@ abbrev pub GivenFront : List (List ℕ) → Option Holding → ℕ → Option (L
 GivenFront words told seen before after =
     (status : Status) × (report : List ℕ) × TellsWords status words told seen report × AppendedFront before after report
 
--- a take of a file word of the form failed in this call, the last call that failed
-abbrev pub HasShelfCause : ShortForm → ℕ → ℕ → Option Call → Type 0
-HasShelfCause form before now last =
-    Rose before now × ((last ≡ Some (call.Take form.left_file)) ⊎ (last ≡ Some (call.Take form.right_file)))
+-- no call of the shelf failed: its count of faults and its last failed call stay as they were
+abbrev pub NoneFailed : ℕ → ℕ → Option Call → Option Call → Type 0
+NoneFailed before now was is = (now ≡ before) × (is ≡ was)
+
+-- a take of the left file failed in this call, or, once the left file was read, one of the right file; it is the last call that failed
+abbrev pub HasShelfCause : ShortForm → Option Holding → ℕ → ℕ → Option Call → Type 0
+HasShelfCause form told before now last =
+    Rose before now
+    × ((last ≡ Some (call.Take form.left_file))
+    ⊎ (ReadsFile told form.left_file form.left_name × (last ≡ Some (call.Take form.right_file))))
 
 -- the status of words in no form, unless the usage could not be given
 abbrev pub EndsInUsage : Status → Type 0

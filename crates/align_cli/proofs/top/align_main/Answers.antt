@@ -3,7 +3,7 @@ use Rattle.align_cli.proofs.NoForm.{ends_in_usage, tells_usage}
 use Rattle.align_cli.proofs.top.align_main.Goals as goal
 
 pub returns-in-Err-clause-no_form : goal.returns-in-Err-clause-no_form
-returns-in-Err-clause-no_form g c = ends_in_usage c.in-Err.status _ _ _ _ c.in-Err.ensures.cause
+returns-in-Err-clause-no_form g c = ends_in_usage c.in-Err.status _ _ _ _ _ _ c.in-Err.ensures.cause
 
 pub returns-in-Ok-give-clause-no_form : goal.returns-in-Ok-give-clause-no_form
 returns-in-Ok-give-clause-no_form g c = tells_usage c.in-Ok.answer.status _ _ _ _ c.in-Ok.ensures.told
