@@ -2,7 +2,7 @@
 ghost use Rattle.std.specs.Prelude.{◌≡◌, ◌≢◌, ◌⊎◌, string_bytes, IfOk, MatchResult};
 ghost use Rattle.align_base.specs.Causes.{Rose};
 ghost use Rattle.align_cli.specs.Form.{AreNoForm, IsShortForm, ShortForm};
-ghost use Rattle.align_cli.specs.Headline.{EndsInRefusal, EndsInUsage, EndsInVerdict, Given, GivenFront, HasShelfCause, IsBadFile, IsGoodFile, NoneFailed, OfForm, ReportsDifferent, ReportsEquivalent, TellsOf, TellsRefused, TellsUsage, TellsWords};
+ghost use Rattle.align_cli.specs.Headline.{EndsInAgreement, EndsInRefusal, EndsInUsage, EndsInVerdict, FilesAgree, Given, GivenFront, HasShelfCause, IsBadFile, IsGoodFile, NoneFailed, OfForm, ReportsDifferent, ReportsEquivalent, TellsOf, TellsRefused, TellsUsage, TellsWords};
 ghost use Rattle.align_cli.specs.Report.{usage_text};
 ghost use Rattle.align_cli.specs.Top.{AnswerFails};
 
@@ -72,6 +72,10 @@ pub fn align_main<R: Threads + Sync, G: Gate + Sync, F: Shelf, O: Sink>(
     ensures must_decide { (form : ShortForm) → IsShortForm words.now form
         → IsGoodFile (F.holding shelf.old) form.left_file form.left_name → IsGoodFile (F.holding shelf.old) form.right_file form.right_name
         → EndsInVerdict result }
+
+    // Two good files whose functions return the same %rax from every start state end in status 0, unless a
+    // call failed or memory was wanted.
+    ensures must_agree { (form : ShortForm) → IsShortForm words.now form → FilesAgree form (F.holding shelf.old) → EndsInAgreement result }
 
     // A take of a file word failed in this call, and nothing was given. With any other status no call of the
     // shelf failed.
