@@ -77,8 +77,8 @@ pub fn align_main<R: Threads + Sync, G: Gate + Sync, F: Shelf, O: Sink>(
     // call failed or memory was wanted.
     ensures must_agree { (form : ShortForm) → IsShortForm words.now form → FilesAgree form (F.holding shelf.old) → EndsInAgreement result }
 
-    // A take of a file word failed in this call, and nothing was given. With any other status no call of the
-    // shelf failed.
+    // A take of a file word failed in this call, that of the right file only once the left one was read, and
+    // nothing was given. With any other status no call of the shelf failed.
     ensures shelf_fault { result ≡ Status.ShelfFault
         → OfForm words.now (λ form. HasShelfCause form (F.holding shelf.old) (F.faults shelf.old) (F.faults shelf.new) (F.last_failed shelf.new)) }
     ensures no_shelf_fault { result ≢ Status.ShelfFault
