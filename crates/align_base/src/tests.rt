@@ -1,6 +1,6 @@
 use crate::{
-    Clause, FolderShelf, GiveFault, Lit, MemShelf, MemSink, OutSink, PutFault, Shelf, Sink, Status,
-    SureShelf, SureSink, TakeFault, Word,
+    Clause, FolderShelf, Gate, GiveFault, Lit, MemShelf, MemSink, OpenGate, OutSink, PutFault,
+    Shelf, Sink, Status, SureShelf, SureSink, TakeFault, Word,
 };
 use std::alloc::Global;
 use std::fs;
@@ -133,6 +133,13 @@ fn sure_sink_appends(rt: HostRuntime) -> Result<(), Fail> {
 fn out_sink_prints(rt: HostRuntime) {
     let mut sink = OutSink::new(&rt);
     assert_eq!(rt; sink.give(b"a line\n"), Ok(()));
+}
+
+#[test]
+fn open_gate_lets_each_leaf_pass(rt: HostRuntime) {
+    for leaf in [0, 1, u32::MAX] {
+        assert_eq!(rt; OpenGate.enter(leaf), (), "of {leaf}");
+    }
 }
 
 #[test]

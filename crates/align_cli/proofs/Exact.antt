@@ -1,4 +1,5 @@
--- A form names its files in one way, and a file is not both good and bad: so a bad file is refused, and two good ones are decided.
+-- A form names its files in one way, a file is not both good and bad, and a text is one function at most: so a bad file is refused,
+-- two good ones are decided, and two that agree are answered so.
 use Rattle.std.proofs.Common.{◌≡◌, ◌⊎◌, inl, inr, ⊎_elim, ℕ, ◌≤◌, List, [], ◌∷◌, length, get_or, Option, Some, sym, ◌∙◌, ap, subst, arith}
 use Rattle.align_base.specs.Shelf.{Holding, Holds, HoldsMore}
 use Rattle.align_base.specs.declared.status.Side.{Side}
@@ -7,12 +8,17 @@ use Rattle.align_base.specs.declared.status.Status.{Status}
 use Rattle.align_base.specs.declared.status.Status.TheVariants as status
 use Rattle.insn_table.specs.declared.insn.Insn.{Insn}
 use Rattle.insn_table.specs.declared.insn.Function.{Function}
+use Rattle.machine.specs.Machine.{Machine, rax}
+use Rattle.machine.specs.Run.{Run}
+use Rattle.machine.specs.declared.state.RunEnd.{RunEnd}
 use Rattle.att_reader.specs.PlainText.{IsPlainText}
 use Rattle.att_reader.specs.Refusals.{IsRefused}
+use Rattle.att_reader.proofs.PlainTexts.{plain-once}
 use Rattle.att_reader.proofs.WholeTexts.{refused-differs}
 use Rattle.align_cli.specs.Form.{IsShortForm, ShortForm}
+use Rattle.align_cli.specs.Shown.{start_at}
 use Rattle.align_cli.specs.Words.{plain_of}
-use Rattle.align_cli.specs.Headline.{EndsInRefusal, EndsInVerdict, IsBadFile, IsGoodFile, OfForm, RefusesFile, TellsOf, TellsRefused, TellsWords, file_limit}
+use Rattle.align_cli.specs.Headline.{EndsInAgreement, EndsInRefusal, EndsInVerdict, FilesAgree, IsBadFile, IsGoodFile, OfForm, RefusesFile, ReportsDifferent, ReturnTheSame, TellsOf, TellsRefused, TellsWords, file_limit}
 use Rattle.align_cli.proofs.PlainWords.{plain-only}
 
 abbrev form_from : List (List ℕ) → ShortForm
@@ -98,3 +104,54 @@ tells_verdict status.Usage words told seen report h form is left right = absurd 
 tells_verdict status.ShelfFault words told seen report h form is left right = absurd h
 tells_verdict status.SinkFault words told seen report h form is left right = absurd h
 tells_verdict status.NoMemory words told seen report h form is left right = absurd h
+
+-- a text that is held is one function at most
+same_held : (told : Option Holding) (held : Holding) (file name text other : List ℕ) (f g : Function) → told ≡ Some held → Holds told file text → Holds told file other
+    → IsPlainText text name f → IsPlainText other name g → f ≡ g
+same_held told held file name text other f g tells h k plain plain_other =
+    let e = same_text told held file other text tells (held_is told held file other tells k) h in
+    plain-once other name f (let P : List ℕ → Type 0 = λ t. IsPlainText t name f in subst P e plain) g plain_other
+
+-- from the shown state both return, and not the same
+shown_differs : (left right : List Insn) (report : List ℕ) → ReportsDifferent left right report → ReturnTheSame left right → ⊥
+shown_differs left right report d same =
+    let value : Run Machine → ℕ = λ run. rax run.0 in
+    let how : Run Machine → RunEnd = λ run. run.1 in
+    let l = d.left_returns in
+    let r = d.right_returns in
+    d.differ (sym l.2 ∙ ap value (sym l.1)
+    ∙ same (start_at d.regs) d.start (length left) (length right) (length left) (length right) (ap how l.1) (ap how r.1)
+    ∙ ap value r.1 ∙ r.2)
+
+no_difference : (form : ShortForm) (told : Option Holding) (report : List ℕ) → TellsOf ReportsDifferent form told report → FilesAgree form told → ⊥
+no_difference form told report h a =
+    let n = h.names in
+    let m = a.names in
+    let left = same_held told a.held form.left_file form.left_name n.left_text m.left_text h.left a.left a.tells n.left_held m.left_held n.left_reads m.left_reads in
+    let right = same_held told a.held form.right_file form.right_name n.right_text m.right_text h.right a.right a.tells n.right_held m.right_held n.right_reads m.right_reads in
+    let P : Function → Type 0 = λ f. ReportsDifferent f.insns h.right.insns report in
+    let Q : Function → Type 0 = λ f. ReportsDifferent a.left.insns f.insns report in
+    shown_differs a.left.insns a.right.insns report (subst Q right (subst P left h.says)) a.same
+
+-- files that agree are good
+left_good : (form : ShortForm) (told : Option Holding) → FilesAgree form told → IsGoodFile told form.left_file form.left_name
+left_good form told a =
+    let n = a.names in (a.held, n.left_text, a.left, a.tells, held_is told a.held form.left_file n.left_text a.tells n.left_held, n.left_small, n.left_reads)
+
+right_good : (form : ShortForm) (told : Option Holding) → FilesAgree form told → IsGoodFile told form.right_file form.right_name
+right_good form told a =
+    let n = a.names in (a.held, n.right_text, a.right, a.tells, held_is told a.held form.right_file n.right_text a.tells n.right_held, n.right_small, n.right_reads)
+
+-- a form with two files that agree is answered so
+pub tells_agreement : (s : Status) (words : List (List ℕ)) (told : Option Holding) (seen : ℕ) (report : List ℕ) → TellsWords s words told seen report
+    → (form : ShortForm) → IsShortForm words form → FilesAgree form told → EndsInAgreement s
+tells_agreement status.Good words told seen report h form is a = tt
+tells_agreement status.Negative words told seen report h form is a =
+    let P : ShortForm → Type 0 = λ f. FilesAgree f told in absurd (no_difference h.0 told report h.2 (subst P (same_form words form h.0 is h.1) a))
+tells_agreement status.Unknown words told seen report h form is a = absurd h
+tells_agreement status.Refused words told seen report h form is a =
+    absurd (tells_verdict status.Refused words told seen report h form is (left_good form told a) (right_good form told a))
+tells_agreement status.Usage words told seen report h form is a = absurd (h.no_form form is)
+tells_agreement status.ShelfFault words told seen report h form is a = absurd h
+tells_agreement status.SinkFault words told seen report h form is a = absurd h
+tells_agreement status.NoMemory words told seen report h form is a = absurd h

@@ -8,15 +8,16 @@ use Rattle.align_cli.specs.Form.{AreNoForm}
 use Rattle.align_cli.specs.Headline.{EndsInUsage, TellsWords}
 use Rattle.align_cli.specs.Top.{AnswerEnds}
 
-pub ends_in_usage : (s : Status) (words : List (List ℕ)) (before now : ℕ) (last : Option Call) → AnswerEnds words before now last s → AreNoForm words → EndsInUsage s
-ends_in_usage status.Good words before now last h none = absurd h
-ends_in_usage status.Negative words before now last h none = absurd h
-ends_in_usage status.Unknown words before now last h none = absurd h
-ends_in_usage status.Refused words before now last h none = absurd h
-ends_in_usage status.Usage words before now last h none = absurd h
-ends_in_usage status.ShelfFault words before now last h none = absurd (none h.0 h.1)
-ends_in_usage status.SinkFault words before now last h none = absurd h
-ends_in_usage status.NoMemory words before now last h none = tt
+pub ends_in_usage : (s : Status) (words : List (List ℕ)) (told : Option Holding) (before now : ℕ) (was is : Option Call) → AnswerEnds words told before now was is s
+    → AreNoForm words → EndsInUsage s
+ends_in_usage status.Good words told before now was is h none = absurd h
+ends_in_usage status.Negative words told before now was is h none = absurd h
+ends_in_usage status.Unknown words told before now was is h none = absurd h
+ends_in_usage status.Refused words told before now was is h none = absurd h
+ends_in_usage status.Usage words told before now was is h none = absurd h
+ends_in_usage status.ShelfFault words told before now was is h none = absurd (none h.0 h.1)
+ends_in_usage status.SinkFault words told before now was is h none = absurd h
+ends_in_usage status.NoMemory words told before now was is h none = tt
 
 pub tells_usage : (s : Status) (words : List (List ℕ)) (told : Option Holding) (seen : ℕ) (report : List ℕ) → TellsWords s words told seen report → AreNoForm words → EndsInUsage s
 tells_usage status.Good words told seen report h none = absurd (none h.0 h.1)

@@ -158,10 +158,16 @@ abbrev pub GivenFront : List (List ℕ) → Option Holding → ℕ → Option (L
 GivenFront words told seen before after =
     (status : Status) × (report : List ℕ) × TellsWords status words told seen report × AppendedFront before after report
 
--- a take of a file word of the form failed in this call, the last call that failed
-abbrev pub HasShelfCause : ShortForm → ℕ → ℕ → Option Call → Type 0
-HasShelfCause form before now last =
-    Rose before now × ((last ≡ Some (call.Take form.left_file)) ⊎ (last ≡ Some (call.Take form.right_file)))
+-- no call of the shelf failed: its count of faults and its last failed call stay as they were
+abbrev pub NoneFailed : ℕ → ℕ → Option Call → Option Call → Type 0
+NoneFailed before now was is = (now ≡ before) × (is ≡ was)
+
+-- a take of the left file failed in this call, or, once the left file was read, one of the right file; it is the last call that failed
+abbrev pub HasShelfCause : ShortForm → Option Holding → ℕ → ℕ → Option Call → Type 0
+HasShelfCause form told before now last =
+    Rose before now
+    × ((last ≡ Some (call.Take form.left_file))
+    ⊎ (ReadsFile told form.left_file form.left_name × (last ≡ Some (call.Take form.right_file))))
 
 -- the status of words in no form, unless the usage could not be given
 abbrev pub EndsInUsage : Status → Type 0
@@ -185,6 +191,21 @@ abbrev pub IsGoodFile : Option Holding → List ℕ → List ℕ → Type 0
 IsGoodFile told file name =
     (held : Holding) × (text : List ℕ) × (f : Function) × (told ≡ Some held) × (held file ≡ Some text) × (length text ≤ file_limit) × IsPlainText text name f
 
+-- the functions return the same %rax from every start state from which both return
+abbrev pub ReturnTheSame : List Insn → List Insn → Type 0
+ReturnTheSame left right =
+    (s : Machine) → IsPlainStart s → (n m i j : ℕ) → end_of (plain_step left) s n ≡ Returned i → end_of (plain_step right) s m ≡ Returned j
+    → rax (run_of (plain_step left) s n).0 ≡ rax (run_of (plain_step right) s m).0
+
+-- the shelf tells, and the files that the form names are good and hold functions that return the same %rax
+pub record FilesAgree (form : ShortForm) (told : Option Holding) : Type 0 where
+  pub held : Holding
+  pub tells : told ≡ Some held
+  pub left : Function
+  pub right : Function
+  pub names : Names form told left right
+  pub same : ReturnTheSame left.insns right.insns
+
 -- the status of a form with a bad file, unless a call failed or memory was wanted
 abbrev pub EndsInRefusal : Status → Type 0
 EndsInRefusal status.Good = ⊥
@@ -206,3 +227,14 @@ EndsInVerdict status.Usage = ⊥
 EndsInVerdict status.ShelfFault = Unit {0}
 EndsInVerdict status.SinkFault = Unit {0}
 EndsInVerdict status.NoMemory = Unit {0}
+
+-- the status of a form with two files that agree, unless a call failed or memory was wanted
+abbrev pub EndsInAgreement : Status → Type 0
+EndsInAgreement status.Good = Unit {0}
+EndsInAgreement status.Negative = ⊥
+EndsInAgreement status.Unknown = ⊥
+EndsInAgreement status.Refused = ⊥
+EndsInAgreement status.Usage = ⊥
+EndsInAgreement status.ShelfFault = Unit {0}
+EndsInAgreement status.SinkFault = Unit {0}
+EndsInAgreement status.NoMemory = Unit {0}

@@ -53,7 +53,7 @@ fn function_in<F: Shelf>(
 ) -> Result<Taken, Status>
     ensures holding { F.holding shelf.new ≡ F.holding shelf.old }
     ensures told { IfOk result (TakenAs (F.holding shelf.old) (F.seen shelf.new) side file.now name.now) }
-    ensures cause { TakeFails (Call.Take file.now) (F.faults shelf.old) (F.faults shelf.new) (F.last_failed shelf.new) result }
+    ensures cause { TakeFails (Call.Take file.now) (F.faults shelf.old) (F.faults shelf.new) (F.last_failed shelf.old) (F.last_failed shelf.new) result }
 {
     let text = match shelf.take(alloc, file, FILE_LIMIT) {
         Ok(text) => text,
@@ -112,7 +112,7 @@ pub fn decided<F: Shelf>(
 ) -> Result<Answer, Status>
     ensures holding { F.holding shelf.new ≡ F.holding shelf.old }
     ensures told { IfOk result (λ answer. Tells answer.status (form_view form.now) (F.holding shelf.old) (F.seen shelf.new) (string_bytes answer.text)) }
-    ensures cause { DecideFails (form_view form.now) (F.faults shelf.old) (F.faults shelf.new) (F.last_failed shelf.new) result }
+    ensures cause { DecideFails (form_view form.now) (F.holding shelf.old) (F.faults shelf.old) (F.faults shelf.new) (F.last_failed shelf.old) (F.last_failed shelf.new) result }
 {
     let left = match function_in(alloc, shelf, Side::Left, form.left_file, form.left_name)? {
         Taken::Read(function) => function,

@@ -1,7 +1,8 @@
 //! What the top call ends with and gives: expected values follow from the rules by hand.
 use crate::align_main;
 use align_base::{
-    MemShelf, MemSink, Memory, OpenGate, Shelf, Sink, Status, SureShelf, SureSink, Word,
+    GiveFault, MemShelf, MemSink, Memory, OpenGate, Shelf, Sink, Status, SureShelf, SureSink,
+    TakeFault, Word,
 };
 use std::alloc::Global;
 use std::str;
@@ -311,6 +312,47 @@ fn faults_give_nothing(rt: HostRuntime) -> Result<(), Fail> {
         let ended = ended(&rt, alloc, line.as_bytes(), &mut shelf, &mut out)?;
         assert_eq!(rt; ended, *status, "at {k}");
         assert!(rt; out.written().is_empty(), "at {k}");
+    }
+    Ok(())
+}
+
+// The third call of the shelf and the second one of the sink would fail: they are first made here.
+#[test]
+fn two_files_are_taken_and_one_report_is_given(rt: HostRuntime) -> Result<(), Fail> {
+    let alloc = rt.alloc();
+    let files = files_of(alloc, &[("a", b"f:\nret"), ("b", b"g:\nret")])?;
+    let mut shelf = MemShelf::new(files, vec![in alloc; 3]?);
+    let mut out = MemSink::new(alloc, vec![in alloc; 2]?);
+    assert_eq!(rt;
+        ended(&rt, alloc, b"decide a f b g", &mut shelf, &mut out)?,
+        Status::Good
+    );
+    assert_eq!(rt;
+        str::from_utf8(out.written())?,
+        "equivalent\nnodes 2\nedges 1\nbound 2\ntests none\n"
+    );
+    let name = Word::new(alloc, b"a")?;
+    assert_eq!(rt; shelf.take(alloc, &name, 9).err(), Some(TakeFault::Failed));
+    assert_eq!(rt; out.give(b""), Err(GiveFault::Failed));
+    Ok(())
+}
+
+// Which call of the shelf fails (0 for none), and how it ends.
+#[test]
+fn a_file_named_twice_is_taken_twice(rt: HostRuntime) -> Result<(), Fail> {
+    let rows = [
+        (0, Status::Good),
+        (1, Status::ShelfFault),
+        (2, Status::ShelfFault),
+        (3, Status::Good),
+    ];
+    let alloc = rt.alloc();
+    for (k, (fails, status)) in rows.iter().enumerate() {
+        let files = files_of(alloc, &[("a", b"f:\nret")])?;
+        let mut shelf = MemShelf::new(files, vec![in alloc; *fails]?);
+        let mut out = SureSink::new(alloc);
+        let ended = ended(&rt, alloc, b"decide a f a f", &mut shelf, &mut out)?;
+        assert_eq!(rt; ended, *status, "at {k}");
     }
     Ok(())
 }

@@ -2,7 +2,7 @@
 ghost use Rattle.std.specs.Prelude.{◌≡◌, ◌≢◌, ◌⊎◌, string_bytes, IfOk, MatchResult};
 ghost use Rattle.align_base.specs.Causes.{Rose};
 ghost use Rattle.align_cli.specs.Form.{AreNoForm, IsShortForm, ShortForm};
-ghost use Rattle.align_cli.specs.Headline.{EndsInRefusal, EndsInUsage, EndsInVerdict, Given, GivenFront, HasShelfCause, IsBadFile, IsGoodFile, OfForm, ReportsDifferent, ReportsEquivalent, TellsOf, TellsRefused, TellsUsage, TellsWords};
+ghost use Rattle.align_cli.specs.Headline.{EndsInAgreement, EndsInRefusal, EndsInUsage, EndsInVerdict, FilesAgree, Given, GivenFront, HasShelfCause, IsBadFile, IsGoodFile, NoneFailed, OfForm, ReportsDifferent, ReportsEquivalent, TellsOf, TellsRefused, TellsUsage, TellsWords};
 ghost use Rattle.align_cli.specs.Report.{usage_text};
 ghost use Rattle.align_cli.specs.Top.{AnswerFails};
 
@@ -30,7 +30,7 @@ fn usage(alloc: Global) -> Result<Answer, Status>
 fn answer_of<F: Shelf>(alloc: Global, words: &[Word], shelf: &mut F) -> Result<Answer, Status>
     ensures holding { F.holding shelf.new ≡ F.holding shelf.old }
     ensures told { IfOk result (λ answer. TellsWords answer.status words.now (F.holding shelf.old) (F.seen shelf.new) (string_bytes answer.text)) }
-    ensures cause { AnswerFails words.now (F.faults shelf.old) (F.faults shelf.new) (F.last_failed shelf.new) result }
+    ensures cause { AnswerFails words.now (F.holding shelf.old) (F.faults shelf.old) (F.faults shelf.new) (F.last_failed shelf.old) (F.last_failed shelf.new) result }
 {
     match short_form(words) {
         Some(form) => decided(alloc, &form, shelf),
@@ -73,13 +73,22 @@ pub fn align_main<R: Threads + Sync, G: Gate + Sync, F: Shelf, O: Sink>(
         → IsGoodFile (F.holding shelf.old) form.left_file form.left_name → IsGoodFile (F.holding shelf.old) form.right_file form.right_name
         → EndsInVerdict result }
 
-    // A take of a file word failed in this call, and nothing was given.
+    // Two good files whose functions return the same %rax from every start state end in status 0, unless a
+    // call failed or memory was wanted.
+    ensures must_agree { (form : ShortForm) → IsShortForm words.now form → FilesAgree form (F.holding shelf.old) → EndsInAgreement result }
+
+    // A take of a file word failed in this call, that of the right file only once the left one was read, and
+    // nothing was given. With any other status no call of the shelf failed.
     ensures shelf_fault { result ≡ Status.ShelfFault
-        → OfForm words.now (λ form. HasShelfCause form (F.faults shelf.old) (F.faults shelf.new) (F.last_failed shelf.new)) }
+        → OfForm words.now (λ form. HasShelfCause form (F.holding shelf.old) (F.faults shelf.old) (F.faults shelf.new) (F.last_failed shelf.new)) }
+    ensures no_shelf_fault { result ≢ Status.ShelfFault
+        → NoneFailed (F.faults shelf.old) (F.faults shelf.new) (F.last_failed shelf.old) (F.last_failed shelf.new) }
     ensures nothing_given { result ≡ Status.ShelfFault → O.written out.new ≡ O.written out.old }
 
-    // The give failed in this call, after a front of a report that is true.
+    // The give failed in this call, after a front of a report that is true. With any other status no give
+    // failed.
     ensures sink_fault { result ≡ Status.SinkFault → Rose (O.faults out.old) (O.faults out.new) }
+    ensures no_sink_fault { result ≢ Status.SinkFault → O.faults out.new ≡ O.faults out.old }
     ensures front { result ≡ Status.SinkFault
         → GivenFront words.now (F.holding shelf.old) (F.seen shelf.new) (O.written out.old) (O.written out.new) }
 

@@ -7,4 +7,4 @@ returns-in-Err-Large-clause-told g c =
 
 pub returns-in-Err-Large-clause-cause : goal.returns-in-Err-Large-clause-cause
 returns-in-Err-Large-clause-cause g c =
-    carried_cause c.refused_large.result c.refusal_in.result c.refusal_in.ensures _ _ _ _ (large_stays _ _ _ c.in-Err-Large.seen _ _ _ c.in-Err-Large.field-0-is c.in-Err-Large.ensures.cause)
+    carried_cause c.refused_large.result c.refusal_in.result c.refusal_in.ensures _ _ _ _ _ (large_stays _ _ _ c.in-Err-Large.seen _ _ _ c.in-Err-Large.field-0-is c.in-Err-Large.ensures.cause)
