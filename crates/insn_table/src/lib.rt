@@ -13,7 +13,7 @@ mod table;
 #[cfg(test)]
 mod tests;
 
-pub use align_base::Op;
+pub use align_base::{Cond, Flags, Op};
 pub use bytes::Bytes;
 pub use fitting::{Misfit, fits};
 pub use insn::{Function, Insn, Insns, Operand};
