@@ -3,6 +3,8 @@ ghost use Rattle.std.specs.Prelude.{◌≡◌, ◌<◌, [], ◌∷◌, IfOk, len
 ghost use Rattle.std.specs.List.{AllByRecursion};
 ghost use Rattle.insn_table.specs.Closed.{IsClosed, IsInside, IsLeaving};
 ghost use Rattle.insn_table.specs.Table.{HasRegisters, IsTableInsn};
+ghost use Rattle.step_bench.specs.Loop as loops;
+ghost use Rattle.step_bench.specs.Loop.{IsLoop, IsMadeOf};
 
 use align_base::Word;
 use insn_table::{
@@ -26,6 +28,7 @@ fn insn(word: &[u8], first: Operand, second: Operand) -> Result<Insn, Unbuilt>
     requires second { HasRegisters second × IsInside 4 second }
     ensures table { IfOk result IsTableInsn }
     ensures inside { IfOk result (λ i. AllByRecursion (IsInside 4) i.args) }
+    ensures made { IfOk result (IsMadeOf word.now first second) }
 {
     let shape = match look_up(word) {
         Some(shape) => shape,
@@ -43,7 +46,8 @@ fn insn(word: &[u8], first: Operand, second: Operand) -> Result<Insn, Unbuilt>
 // Register `n` of `w` bits.
 fn register(n: u8, w: u32) -> Operand
     requires { n < 16 }
-    ensures { HasRegisters result × IsInside 4 result }
+    ensures is { result ≡ Operand.Reg n w }
+    ensures known { HasRegisters result × IsInside 4 result }
 {
     Operand::Reg { n, w }
 }
@@ -51,7 +55,8 @@ fn register(n: u8, w: u32) -> Operand
 // Four bytes at a register, and four times %rcx further on.
 fn element(base: u8) -> Operand
     requires { base < 16 }
-    ensures { HasRegisters result × IsInside 4 result }
+    ensures is { result ≡ loops.element base }
+    ensures known { HasRegisters result × IsInside 4 result }
 {
     Operand::Mem {
         base: Some(base),
@@ -65,7 +70,8 @@ fn element(base: u8) -> Operand
 fn function(alloc: Global, insns: &[Insn; 4]) -> Result<Function, Unbuilt>
     requires table { AllByRecursion IsTableInsn insns.now }
     requires inside { AllByRecursion (λ i. AllByRecursion (IsInside 4) i.args) insns.now }
-    ensures { IfOk result (λ f. IsClosed f.insns) }
+    ensures closed { IfOk result (λ f. IsClosed f.insns) }
+    ensures insns { IfOk result (λ f. f.insns ≡ insns.now) }
 {
     match insns[3].op {
         Op::Jmp => {}
@@ -93,7 +99,8 @@ fn function(alloc: Global, insns: &[Insn; 4]) -> Result<Function, Unbuilt>
 ///     incb %cl
 ///     jmp to the first
 pub fn endless_loop(alloc: Global) -> Result<Function, Unbuilt>
-    ensures { IfOk result (λ f. IsClosed f.insns) }
+    ensures closed { IfOk result (λ f. IsClosed f.insns) }
+    ensures insns { IfOk result (λ f. IsLoop f.insns) }
 {
     let read = insn(b"addl", element(7), register(0, 32))?;
     let write = insn(b"movl", register(0, 32), element(6))?;

@@ -1,5 +1,6 @@
 //! The state that the loop is run from.
 ghost use Rattle.std.specs.Prelude.{◌≡◌, ◌++◌, ◌∷◌, [], IfOk, OnOk};
+ghost use Rattle.step_bench.specs.Start.{IsLoopStart};
 
 use crate::looping::Unbuilt;
 use lane_views::Bytes32;
@@ -30,7 +31,7 @@ fn add<T: Drop>(items: &mut Vec<T>, item: T) -> Result<(), Unbuilt>
 /// A start state: 2048 bytes of 1 from 4096 on, which may be read and written, `%rdi` at their start
 /// and `%rsi` in their middle.
 pub fn start_state(alloc: Global) -> Result<State, Unbuilt>
-    ensures { IfOk result (λ s. s.place ≡ 0) }
+    ensures { IfOk result IsLoopStart }
 {
     let mut regs = [0; 16];
     regs[4] = 16384;
