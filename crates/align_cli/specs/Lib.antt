@@ -1,9 +1,12 @@
-pub mod Decide
-pub mod Form
-pub mod Headline
+pub mod Answers
+pub mod Command
+pub mod Commands
+pub mod Files
+pub mod Inside
+pub mod PlainArguments
 pub mod Report
 pub mod Shown
+pub mod Statuses
 pub mod Sums
-pub mod Top
+pub mod Verdict
 pub mod View
-pub mod Words
