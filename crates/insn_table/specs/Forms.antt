@@ -9,7 +9,7 @@ use Rattle.insn_table.specs.declared.insn.Operand.TheVariants.{Reg, Imm, Mem, Po
 use Rattle.insn_table.specs.declared.insn.Insn.{Insn}
 use Rattle.insn_table.specs.declared.shape.Shape.{Shape}
 use Rattle.insn_table.specs.declared.forms.Class.{Class}
-use Rattle.insn_table.specs.declared.forms.Class.TheVariants.{Register, Place, Readable, Source, Immediate, Wide, Count, Address, Label, Absent}
+use Rattle.insn_table.specs.declared.forms.Class.TheVariants.{Register, Writable, Readable, Source, Immediate, Wide, Count, Address, Label, Absent}
 use Rattle.insn_table.specs.declared.fitting.Misfit.{Misfit}
 use Rattle.insn_table.specs.declared.fitting.Misfit.TheVariants.{BadOperand, BadNumber}
 
@@ -36,29 +36,29 @@ has_wide_form w = w == 16 || (w == 32 || w == 64)
 
 -- the forms of an operation of w bits
 abbrev pub forms : Op → ℕ → List Form
-forms Mov w = two (Source w) (Place w) ∷ []
+forms Mov w = two (Source w) (Writable w) ∷ []
 forms Movabs w = two Wide (Register w) ∷ []
-forms Add w = two (Source w) (Place w) ∷ []
-forms Sub w = two (Source w) (Place w) ∷ []
+forms Add w = two (Source w) (Writable w) ∷ []
+forms Sub w = two (Source w) (Writable w) ∷ []
 forms Cmp w = two (Source w) (Readable w) ∷ []
 forms Test w = two (Source w) (Readable w) ∷ []
-forms And w = two (Source w) (Place w) ∷ []
-forms Or w = two (Source w) (Place w) ∷ []
-forms Xor w = two (Source w) (Place w) ∷ []
-forms Inc w = one (Place w) ∷ []
-forms Dec w = one (Place w) ∷ []
-forms Neg w = one (Place w) ∷ []
-forms Not w = one (Place w) ∷ []
-forms Shl w = two (Count w) (Place w) ∷ []
-forms Shr w = two (Count w) (Place w) ∷ []
-forms Sar w = two (Count w) (Place w) ∷ []
+forms And w = two (Source w) (Writable w) ∷ []
+forms Or w = two (Source w) (Writable w) ∷ []
+forms Xor w = two (Source w) (Writable w) ∷ []
+forms Inc w = one (Writable w) ∷ []
+forms Dec w = one (Writable w) ∷ []
+forms Neg w = one (Writable w) ∷ []
+forms Not w = one (Writable w) ∷ []
+forms Shl w = two (Count w) (Writable w) ∷ []
+forms Shr w = two (Count w) (Writable w) ∷ []
+forms Sar w = two (Count w) (Writable w) ∷ []
 forms Imul w = two (Readable w) (Register w) ∷ two (Immediate w) (Register w) ∷ three (Immediate w) (Readable w) (Register w) ∷ []
 forms Lea w = two Address (Register w) ∷ []
 forms (Movzx from) w = two (Readable from) (Register w) ∷ []
 forms (Movsx from) w = two (Readable from) (Register w) ∷ []
 forms Cltq w = none ∷ []
 forms (Cmov condition) w = if has_wide_form w then two (Readable w) (Register w) ∷ [] else []
-forms (Set condition) w = one (Place w) ∷ []
+forms (Set condition) w = one (Writable w) ∷ []
 forms (Jump condition) w = one Label ∷ []
 forms Jmp w = one Label ∷ []
 forms Push w = one (Register w) ∷ []
@@ -97,7 +97,7 @@ is_nothing _ = false
 -- whether a place of a form takes this kind of operand, whatever its numbers
 abbrev pub takes_kind : Class → Operand → Bool
 takes_kind (Register w) a = is_register w a
-takes_kind (Place w) a = is_register w a || is_addressed a
+takes_kind (Writable w) a = is_register w a || is_addressed a
 takes_kind (Readable w) a = is_register w a || is_memory a
 takes_kind (Source w) a = is_number a || (is_register w a || is_memory a)
 takes_kind (Immediate w) a = is_number a

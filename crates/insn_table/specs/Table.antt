@@ -25,9 +25,9 @@ HasRegisters (Pool at) = Unit {0}
 HasRegisters (Target place) = Unit {0}
 HasRegisters Nothing = Unit {0}
 
--- a word of the table names the instruction's shape, and fits takes its operands as they are
+-- a mnemonic of the table names the instruction's shape, and fits takes its operands as they are
 pub record IsTableInsn (i : Insn) : Type 0 where
-  pub word : List ℕ
-  pub row : IsRowOf general_rows word (shape_of i)
+  pub mnemonic : List ℕ
+  pub row : IsRowOf general_rows mnemonic (shape_of i)
   pub accepted : fits_of (shape_of i) i.args i.line ≡ Ok i
   pub registers : AllByRecursion HasRegisters i.args

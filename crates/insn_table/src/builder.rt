@@ -8,8 +8,8 @@ ghost use Rattle.insn_table.specs.Building.{Appends, next_insn, function_made, f
 
 use crate::assembling::{Statement, assemble};
 use crate::build_error::BuildError;
-use crate::bytes::Bytes;
 use crate::insn::{Function, Insn, Insns, Operand};
+use crate::items::Bytes;
 use align_base::{Op, Word};
 use std::alloc::Global;
 use std::marker::Model;

@@ -13,7 +13,7 @@ pub enum Class {
     /// A general register.
     Register(u32),
     /// What may be written: a general register or memory.
-    Place(u32),
+    Writable(u32),
     /// What is only read: a general register, memory or the pool.
     Readable(u32),
     /// An immediate, or what is only read.
@@ -116,12 +116,12 @@ pub fn forms_of(op: Op, w: u32) -> Forms
 {
     match op {
         Op::Mov | Op::Add | Op::Sub | Op::And | Op::Or | Op::Xor => {
-            Forms::one(two(Class::Source(w), Class::Place(w)))
+            Forms::one(two(Class::Source(w), Class::Writable(w)))
         }
         Op::Cmp | Op::Test => Forms::one(two(Class::Source(w), Class::Readable(w))),
         Op::Movabs => Forms::one(two(Class::Wide, Class::Register(w))),
-        Op::Inc | Op::Dec | Op::Neg | Op::Not | Op::Set(_) => Forms::one(one(Class::Place(w))),
-        Op::Shl | Op::Shr | Op::Sar => Forms::one(two(Class::Count(w), Class::Place(w))),
+        Op::Inc | Op::Dec | Op::Neg | Op::Not | Op::Set(_) => Forms::one(one(Class::Writable(w))),
+        Op::Shl | Op::Shr | Op::Sar => Forms::one(two(Class::Count(w), Class::Writable(w))),
         Op::Imul => Forms::three(
             two(Class::Readable(w), Class::Register(w)),
             two(Class::Immediate(w), Class::Register(w)),
@@ -154,7 +154,7 @@ pub fn takes_kind(class: Class, operand: Operand) -> bool
 {
     match class {
         Class::Register(w) => is_register(w, operand),
-        Class::Place(w) => is_register(w, operand) || is_addressed(operand),
+        Class::Writable(w) => is_register(w, operand) || is_addressed(operand),
         Class::Readable(w) => is_register(w, operand) || is_memory(operand),
         Class::Source(w) => { is_number(operand) || is_register(w, operand) || is_memory(operand) }
         Class::Immediate(_) | Class::Wide | Class::Count(_) => is_number(operand),
