@@ -9,9 +9,11 @@ use Rattle.std.specs.Ordering.{nat_cmp, is_lt}
 use Rattle.std.specs.Cmp.Lexicographic.{slice_cmp}
 use Rattle.insn_table.specs.declared.shape.Shape.{Shape}
 
+-- a row: its mnemonic and its shape
 abbrev pub Row : Type 0
 Row = List ℕ × Shape
 
+-- the shape of a general instruction, which has no VEX form
 abbrev pub general : Op → ℕ → Shape
 general op w = record { op = op; w = w; vex = false }
 
@@ -330,7 +332,8 @@ shl_to_xor =
 
 -- all rows
 unfoldable pub general_rows : List Row
-general_rows = add_to_cltq ++ (cmova_to_cmovnc ++ (cmovne_to_cmovz ++ (cmp_to_lea ++ (mov_to_sar ++ (set_rows ++ shl_to_xor)))))
+general_rows =
+    add_to_cltq ++ (cmova_to_cmovnc ++ (cmovne_to_cmovz ++ (cmp_to_lea ++ (mov_to_sar ++ (set_rows ++ shl_to_xor)))))
 
 -- whether each mnemonic stands behind the one before it in byte order, the first behind this mnemonic
 abbrev pub in_order_after : List ℕ → List Row → Bool

@@ -12,6 +12,7 @@ use Rattle.insn_table.specs.Forms.{fits_of}
 abbrev pub shape_of : Insn → Shape
 shape_of i = record { op = i.op; w = i.w; vex = i.vex }
 
+-- 1, 2, 4 or 8
 abbrev pub IsScale : ℕ → Type 0
 IsScale s = (s ≡ 1) ⊎ ((s ≡ 2) ⊎ ((s ≡ 4) ⊎ (s ≡ 8)))
 
@@ -19,7 +20,8 @@ IsScale s = (s ≡ 1) ⊎ ((s ≡ 2) ⊎ ((s ≡ 4) ⊎ (s ≡ 8)))
 abbrev pub HasRegisters : Operand → Type 0
 HasRegisters (Reg n w) = n < 16
 HasRegisters (Imm v) = Unit {0}
-HasRegisters (Mem base index scale disp) = IfSome base (λ n. n < 16) × IfSome index (λ n. n < 16) × IsScale scale
+HasRegisters (Mem base index scale disp) =
+    IfSome base (λ n. n < 16) × IfSome index (λ n. n < 16) × IsScale scale
 HasRegisters (Vec n w) = n < 16
 HasRegisters (Pool at) = Unit {0}
 HasRegisters (Target place) = Unit {0}

@@ -49,7 +49,8 @@ impl FunctionBuilder {
         ensures ok { OnOk result (Appends self.old self.new (next_insn self.old mnemonic.now args.now)) }
         ensures err { OnErr result (self.new ≡ self.old) }
         ensures refused { (e : BuildError) → next_insn self.old mnemonic.now args.now ≡ Err e → result ≡ Err e }
-        ensures only { IfErr result (λ e. (e ≡ BuildError.OutOfMemory) ⊎ (next_insn self.old mnemonic.now args.now ≡ Err e)) }
+        ensures only { IfErr result (λ e.
+            (e ≡ BuildError.OutOfMemory) ⊎ (next_insn self.old mnemonic.now args.now ≡ Err e)) }
     {
         let line = self.kept.len() as u32;
         if line == u32::MAX {

@@ -7,7 +7,7 @@ use crate::insn::Operand;
 use align_base::Op;
 use std::marker::Model;
 
-/// What a form takes at one place. The numbers are widths in bits.
+/// What one operand of a form may be. The numbers are widths in bits.
 #[derive(Clone, Copy, Debug, PartialEq, Eq)]
 pub enum Class {
     /// A general register.
@@ -26,7 +26,7 @@ pub enum Class {
     Count(u32),
     /// Memory, of which the address alone is taken.
     Address,
-    /// The place that a jump goes to.
+    /// The target of a jump.
     Label,
     /// No operand.
     Absent,
@@ -148,7 +148,7 @@ fn move_by_condition(w: u32) -> Forms
     }
 }
 
-/// Whether a place of a form takes this kind of operand, whatever its number.
+/// Whether an operand is of this class, whatever its number.
 pub fn takes_kind(class: Class, operand: Operand) -> bool
     ensures { result ≡ takes_kind class operand }
 {

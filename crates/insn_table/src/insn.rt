@@ -6,14 +6,15 @@ use align_base::{Op, Word};
 #[derive(Clone, Copy, Debug, PartialEq, Eq)]
 pub enum Operand {
     /// General register `n`, numbered as in rax, rcx, rdx, rbx, rsp, rbp, rsi, rdi, r8 to r15, of
-    /// `w` bits.
+    /// `w` bits (Intel SDM, volume 2, section 3.1.1.1, table 3-1, "Register Codes").
     Reg {
         n: u8,
         w: u32,
     },
     /// An immediate, modulo 2^64.
     Imm(u64),
-    /// Memory at the sum of base, scaled index and displacement, modulo 2^64.
+    /// Memory at the sum of base, scaled index and displacement, modulo 2^64 (Intel SDM, volume 1,
+    /// section 3.7.5, "Specifying an Offset"). The scale is 1, 2, 4 or 8.
     Mem {
         base: Option<u8>,
         index: Option<u8>,

@@ -1,3 +1,4 @@
+//! What a mnemonic says of an instruction.
 use align_base::Op;
 
 /// What the mnemonic of an instruction says: the operation, the width of its form in bits (0 where the

@@ -1,4 +1,5 @@
-//! The mnemonics of the instruction table and what they name.
+//! The mnemonics of the instruction table and what they name: one row each, in byte order, as in
+//! `specs/Spellings`.
 ghost use Rattle.std.specs.Prelude.{◌≡◌, ℕ, List, true, Some, map, slice_get};
 ghost use Rattle.insn_table.specs.Spellings.{Row, general, named, general_rows, in_order, IsRowOf, add_to_cltq, cmova_to_cmovnc, cmovne_to_cmovz, cmp_to_lea, mov_to_sar, set_rows, shl_to_xor};
 ghost use Rattle.insn_table.specs.declared.shape.Shape.{Shape};

@@ -1,4 +1,5 @@
-//! The laws of the instruction table.
+//! The laws of the instruction table: functions without code, whose contracts say what holds of every
+//! instruction of the table.
 ghost use Rattle.std.specs.Prelude.{◌≡◌, ◌≤◌, ◌<◌, ◌^◌, ℕ, List, length, Some, Ok};
 ghost use Rattle.std.specs.List.{AllByRecursion, count_by};
 ghost use Rattle.align_base.specs.declared.op.Op.{Op};
