@@ -30,6 +30,7 @@ abbrev pub is_known : Option ℕ → Bool
 is_known None = true
 is_known (Some n) = nat_lt n 16
 
+-- 1, 2, 4 or 8
 abbrev pub is_scale : ℕ → Bool
 is_scale s = s == 1 || (s == 2 || (s == 4 || s == 8))
 
@@ -40,10 +41,12 @@ has_registers (Vec n w) = nat_lt n 16
 has_registers (Mem base index scale disp) = is_known base && (is_known index && is_scale scale)
 has_registers _ = true
 
+-- what fits answered, where each register and scale is one that there is
 abbrev pub with_registers : Result Insn Misfit → Result Insn BuildError
 with_registers (Ok i) = if list_all has_registers i.args then Ok i else Err BadRegister
 with_registers (Err misfit) = Err (Unfit misfit)
 
+-- what the shape of a mnemonic makes of four operands: None where the mnemonic is unknown, or where there are more
 abbrev pub insn_made : Option Shape → Option (List Operand) → ℕ → Result Insn BuildError
 insn_made None args line = Err UnknownMnemonic
 insn_made (Some shape) None line = Err (Unfit BadOperand)
@@ -55,7 +58,8 @@ assembled mnemonic args line = insn_made (named general_rows mnemonic) (four_of 
 
 -- what a mnemonic and its operands make behind these instructions, on the line of that number
 abbrev pub next_insn : List Insn → List ℕ → List Operand → Result Insn BuildError
-next_insn before mnemonic args = if nat_lt (length before + 1) (2 ^ 32) then assembled mnemonic args (length before + 1) else Err TooMany
+next_insn before mnemonic args =
+    if nat_lt (length before + 1) (2 ^ 32) then assembled mnemonic args (length before + 1) else Err TooMany
 
 -- the new list has one instruction more, which is the one that was made
 pub record Appends (old new : List Insn) (made : Result Insn BuildError) : Type 0 where
@@ -68,6 +72,7 @@ abbrev pub is_inside : ℕ → Operand → Bool
 is_inside n (Target place) = nat_lt place n
 is_inside n _ = true
 
+-- each target of an instruction is one of n instructions
 abbrev pub goes_inside : ℕ → Insn → Bool
 goes_inside n i = list_all (is_inside n) i.args
 
@@ -77,36 +82,44 @@ is_leaving Ret = true
 is_leaving Jmp = true
 is_leaving _ = false
 
+-- there is an instruction, and it leaves
 abbrev pub leaves : Option Insn → Bool
 leaves None = false
 leaves (Some i) = is_leaving i.op
+
+-- what the last instruction is at fault of
+abbrev pub ending_fault : List Insn → Option BuildError
+ending_fault insns = if leaves (slice_get insns (length insns - 1)) then None else Some FallsOff
 
 -- the first of the three faults that keep instructions from being a closed function
 abbrev pub fault_of : List Insn → Option BuildError
 fault_of insns =
     if length insns == 0 then Some Empty
-    else if list_all (goes_inside (length insns)) insns then (if leaves (slice_get insns (length insns - 1)) then None else Some FallsOff)
-    else Some TargetOutside
+    else if list_all (goes_inside (length insns)) insns then ending_fault insns else Some TargetOutside
 
 -- what a builder holds: fewer than 2^32 instructions of the table
 pub record IsDraft (insns : List Insn) : Type 0 where
   pub few : length insns < 2 ^ 32
   pub table : AllByRecursion IsTableInsn insns
 
--- goes on with the instruction that was made, behind those before it
-abbrev pub after_next : (List Insn → Result (List Insn) BuildError) → List Insn → Result Insn BuildError → Result (List Insn) BuildError
+-- goes on with the instruction that was made at the end of those before it
+abbrev pub after_next : (List Insn → Result (List Insn) BuildError)
+    → List Insn → Result Insn BuildError → Result (List Insn) BuildError
 after_next rest before (Ok i) = rest (before ++ i ∷ [])
 after_next rest before (Err e) = Err e
 
 -- the instructions behind these when the statements are pushed one after another, or the first fault
 abbrev pub insns_made : List Insn → List Statement → Result (List Insn) BuildError
 insns_made before [] = Ok before
-insns_made before (s ∷ rest) = after_next (λ insns. insns_made insns rest) before (next_insn before s.mnemonic.now s.args)
+insns_made before (s ∷ rest) =
+    after_next (λ insns. insns_made insns rest) before (next_insn before s.mnemonic.now s.args)
 
+-- the instructions where there is no fault
 abbrev pub unless_fault : Option BuildError → List Insn → Result (List Insn) BuildError
 unless_fault None insns = Ok insns
 unless_fault (Some e) insns = Err e
 
+-- the instructions that were made, where they have no fault
 abbrev pub closed_made : Result (List Insn) BuildError → Result (List Insn) BuildError
 closed_made (Ok insns) = unless_fault (fault_of insns) insns
 closed_made (Err e) = Err e

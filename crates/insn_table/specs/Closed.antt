@@ -19,8 +19,8 @@ IsLeaving Ret = Unit {0}
 IsLeaving Jmp = Unit {0}
 IsLeaving _ = ⊥
 
--- The function has an instruction and fewer than 2^32, each is one of the table and goes to one of them, and the last one
--- leaves.
+-- A closed function has an instruction and fewer than 2^32, each is one of the table and goes to one of them, and the last
+-- one leaves.
 pub record IsClosed (insns : List Insn) : Type 0 where
   pub some : 0 < length insns
   pub few : length insns < 2 ^ 32

@@ -8,8 +8,8 @@ ghost use Rattle.insn_table.specs.Building.{Appends, next_insn, function_made, f
 
 use crate::assembling::{Statement, assemble};
 use crate::build_error::BuildError;
-use crate::bytes::Bytes;
 use crate::insn::{Function, Insn, Insns, Operand};
+use crate::items::Bytes;
 use align_base::{Op, Word};
 use std::alloc::Global;
 use std::marker::Model;
@@ -49,7 +49,8 @@ impl FunctionBuilder {
         ensures ok { OnOk result (Appends self.old self.new (next_insn self.old mnemonic.now args.now)) }
         ensures err { OnErr result (self.new ≡ self.old) }
         ensures refused { (e : BuildError) → next_insn self.old mnemonic.now args.now ≡ Err e → result ≡ Err e }
-        ensures only { IfErr result (λ e. (e ≡ BuildError.OutOfMemory) ⊎ (next_insn self.old mnemonic.now args.now ≡ Err e)) }
+        ensures only { IfErr result (λ e.
+            (e ≡ BuildError.OutOfMemory) ⊎ (next_insn self.old mnemonic.now args.now ≡ Err e)) }
     {
         let line = self.kept.len() as u32;
         if line == u32::MAX {
@@ -144,8 +145,5 @@ pub fn assemble_function(
     for statement in statements {
         builder.push(statement.mnemonic, &statement.args)?;
     }
-    let Ok(name) = Word::new(alloc, name) else {
-        return Err(BuildError::OutOfMemory);
-    };
-    builder.finish(name)
+    builder.finish(Word::new(alloc, name)?)
 }

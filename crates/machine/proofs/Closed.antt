@@ -10,7 +10,7 @@ use Rattle.insn_table.specs.declared.insn.Insn.{Insn}
 use Rattle.insn_table.specs.declared.insn.Operand.{Operand}
 use Rattle.insn_table.specs.declared.insn.Operand.TheVariants.{Reg, Imm, Mem, Vec, Pool, Target, Nothing}
 use Rattle.insn_table.specs.declared.forms.Class.{Class}
-use Rattle.insn_table.specs.declared.forms.Class.TheVariants.{Register, Place, Count, Address, Label, Absent}
+use Rattle.insn_table.specs.declared.forms.Class.TheVariants.{Register, Writable, Count, Address, Label, Absent}
 use Rattle.insn_table.specs.Forms.{Form, forms, form_of, insn_of, is_target, number_fits, numbers_fit, one, takes, takes_kind, two, is_nothing}
 use Rattle.insn_table.specs.Closed.{IsClosed, IsInside}
 use Rattle.insn_table.specs.Spellings.{Row, general_rows, add_to_cltq, cmova_to_cmovnc, cmovne_to_cmovz, cmp_to_lea, mov_to_sar, set_rows, shl_to_xor}
@@ -45,7 +45,7 @@ rows_widths = refl
 
 table-widths : (i : Insn) → IsTableInsn i → has_widths i.op i.w ≡ true
 unfolding names_widths
-table-widths i t = passed_at names_widths general_rows t.row.place (t.word, shape_of i) rows_widths t.row.there
+table-widths i t = passed_at names_widths general_rows t.row.index (t.mnemonic, shape_of i) rows_widths t.row.there
 
 width-from_test : (w : ℕ) → is_width w ≡ true → IsWidth w
 width-from_test w h =
@@ -110,9 +110,9 @@ count_of w (Pool at) kind fits = absurd (cc)
 count_of w (Target place) kind fits = absurd (cc)
 count_of w Nothing kind fits = absurd (cc)
 
-shift-count : (i : Insn) → IsTaken (two (Count i.w) (Place i.w)) i → HasCount i
+shift-count : (i : Insn) → IsTaken (two (Count i.w) (Writable i.w)) i → HasCount i
 shift-count i taken =
-    let form = two (Count i.w) (Place i.w) in
+    let form = two (Count i.w) (Writable i.w) in
     let c = count_of i.w (operand i 0) (kind_at i form 0 (Count i.w) taken refl) (number_at i form 0 (Count i.w) taken refl) in
     record { count = c.0; source = c.1; some = c.2; below = c.3 }
 
@@ -162,9 +162,9 @@ lea-target i taken =
 table-row : (op : Op) (i : Insn) (form : Form) → has_widths op i.w ≡ true → find (takes i.args) (forms op i.w) ≡ Some form → numbers_fit i.args form ≡ true
     → HasRowOf op i
 unfolding has_widths
-table-row ops.Shl i form widths found fits = shift-count i (taken-by_one i (two (Count i.w) (Place i.w)) form found fits)
-table-row ops.Shr i form widths found fits = shift-count i (taken-by_one i (two (Count i.w) (Place i.w)) form found fits)
-table-row ops.Sar i form widths found fits = shift-count i (taken-by_one i (two (Count i.w) (Place i.w)) form found fits)
+table-row ops.Shl i form widths found fits = shift-count i (taken-by_one i (two (Count i.w) (Writable i.w)) form found fits)
+table-row ops.Shr i form widths found fits = shift-count i (taken-by_one i (two (Count i.w) (Writable i.w)) form found fits)
+table-row ops.Sar i form widths found fits = shift-count i (taken-by_one i (two (Count i.w) (Writable i.w)) form found fits)
 table-row ops.Lea i form widths found fits = lea-target i (taken-by_one i (two Address (Register i.w)) form found fits)
 table-row (ops.Movzx m) i form widths found fits = extended m i.w widths
 table-row (ops.Movsx m) i form widths found fits = extended m i.w widths

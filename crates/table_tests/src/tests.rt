@@ -1,5 +1,11 @@
-use crate::{Insn, Misfit, Op, Operand, Shape, fits, look_up};
-use align_base::Cond;
+//! Each public call of `insn_table` once, and the kinds and ranges of operands, in tables.
+use align_base::Word;
+use insn_table::{
+    BuildError, Cond, Function, FunctionBuilder, Insn, Misfit, Op, Operand, Shape, Statement,
+    assemble_function, fits, look_up,
+};
+use std::alloc::Global;
+use std::test::Fail;
 
 const MEMORY: Operand = Operand::Mem {
     base: Some(7),
@@ -21,6 +27,17 @@ fn below(v: u64) -> Operand {
     Operand::Imm(0u64.wrapping_sub(v))
 }
 
+/// An instruction, by its parts.
+fn insn(op: Op, w: u32, args: [Operand; 4], line: u32) -> Insn {
+    Insn {
+        op,
+        w,
+        vex: false,
+        args,
+        line,
+    }
+}
+
 /// Why this operation of `w` bits doesn't take the operands: None where it does.
 fn misfit(op: Op, w: u32, first: Operand, second: Operand, third: Operand) -> Option<Misfit> {
     let shape = Shape { op, w, vex: false };
@@ -28,8 +45,8 @@ fn misfit(op: Op, w: u32, first: Operand, second: Operand, third: Operand) -> Op
 }
 
 #[test]
-fn words_name_shapes(rt: HostRuntime) {
-    for (word, op, w) in [
+fn mnemonics_name_shapes(rt: HostRuntime) {
+    for (mnemonic, op, w) in [
         (b"salw".as_slice(), Op::Shl, 16),
         (b"jnae".as_slice(), Op::Jump(Cond::B), 64),
         (b"cmovnel".as_slice(), Op::Cmov(Cond::Ne), 32),
@@ -39,9 +56,9 @@ fn words_name_shapes(rt: HostRuntime) {
         (b"movzbw".as_slice(), Op::Movzx(8), 16),
         (b"retq".as_slice(), Op::Ret, 64),
     ] {
-        assert_eq!(rt; look_up(word), Some(Shape { op, w, vex: false }));
+        assert_eq!(rt; look_up(mnemonic), Some(Shape { op, w, vex: false }));
     }
-    for word in [
+    for mnemonic in [
         b"mov".as_slice(),
         b"retl".as_slice(),
         b"Addb".as_slice(),
@@ -50,7 +67,7 @@ fn words_name_shapes(rt: HostRuntime) {
         b"leab".as_slice(),
         b"cmovneb".as_slice(),
     ] {
-        assert_eq!(rt; look_up(word), None);
+        assert_eq!(rt; look_up(mnemonic), None);
     }
 }
 
@@ -133,16 +150,9 @@ fn what_is_left_out_is_written_out(rt: HostRuntime) {
         vex: false,
     };
     let args = [Operand::Imm(1), register(8), NOTHING, NOTHING];
-    let insn = Insn {
-        op: Op::Shr,
-        w: 8,
-        vex: false,
-        args,
-        line: 7,
-    };
     assert_eq!(rt;
         fits(shape, [register(8), NOTHING, NOTHING, NOTHING], 7),
-        Ok(insn)
+        Ok(insn(Op::Shr, 8, args, 7))
     );
     for (w, widths) in [(16, Some(16)), (32, Some(32)), (64, Some(64)), (8, None)] {
         let op = Op::Cmov(Cond::E);
@@ -154,4 +164,111 @@ fn what_is_left_out_is_written_out(rt: HostRuntime) {
         let args = [register(w), register(w), NOTHING, NOTHING];
         assert_eq!(rt; fits(shape, args, 7).ok().map(|i| i.w), widths);
     }
+}
+
+/// The function of these statements, or why there is none.
+fn built(alloc: Global, statements: &[Statement]) -> Result<Function, BuildError> {
+    assemble_function(alloc, b"f", statements)
+}
+
+#[test]
+fn statements_make_a_closed_function(rt: HostRuntime) -> Result<(), Fail> {
+    let eax = register(32);
+    let function = built(
+        rt.alloc(),
+        &[
+            Statement::new(b"addl", &[MEMORY, eax]),
+            Statement::new(b"jne", &[Operand::Target(0)]),
+            Statement::new(b"shrl", &[eax]),
+            Statement::new(b"jmp", &[Operand::Target(3)]),
+        ],
+    )?;
+    assert_eq!(rt; function.name.bytes(), b"f".as_slice());
+    assert!(rt; function.pool.is_empty());
+    assert!(rt; !function.insns.is_empty());
+    let wanted = [
+        insn(Op::Add, 32, [MEMORY, eax, NOTHING, NOTHING], 1),
+        insn(
+            Op::Jump(Cond::Ne),
+            64,
+            [Operand::Target(0), NOTHING, NOTHING, NOTHING],
+            2,
+        ),
+        insn(Op::Shr, 32, [Operand::Imm(1), eax, NOTHING, NOTHING], 3),
+        insn(
+            Op::Jmp,
+            64,
+            [Operand::Target(3), NOTHING, NOTHING, NOTHING],
+            4,
+        ),
+    ];
+    assert_eq!(rt; function.insns.as_slice(), wanted.as_slice());
+    Ok(())
+}
+
+#[test]
+fn each_fault_is_told(rt: HostRuntime) {
+    let ret = Statement::new(b"ret", &[]);
+    let out = Statement::new(b"jmp", &[Operand::Target(2)]);
+    let wide = Operand::Reg { n: 16, w: 64 };
+    let thrice = Operand::Mem {
+        base: Some(7),
+        index: Some(1),
+        scale: 3,
+        disp: 0,
+    };
+    for (first, last, fault) in [
+        (
+            Statement::new(b"pushl", &[register(32)]),
+            ret,
+            BuildError::UnknownMnemonic,
+        ),
+        (
+            Statement::new(b"addl", &[MEMORY, POOL]),
+            ret,
+            BuildError::Unfit(Misfit::BadOperand),
+        ),
+        (
+            Statement::new(b"addb", &[Operand::Imm(256), MEMORY]),
+            ret,
+            BuildError::Unfit(Misfit::BadNumber),
+        ),
+        (
+            Statement::new(b"pushq", &[wide]),
+            ret,
+            BuildError::BadRegister,
+        ),
+        (
+            Statement::new(b"incl", &[thrice]),
+            ret,
+            BuildError::BadRegister,
+        ),
+        (out, ret, BuildError::TargetOutside),
+        (ret, Statement::new(b"nop", &[]), BuildError::FallsOff),
+    ] {
+        assert_eq!(rt; built(rt.alloc(), &[first, last]).err(), Some(fault));
+    }
+    assert_eq!(rt; built(rt.alloc(), &[]).err(), Some(BuildError::Empty));
+}
+
+#[test]
+fn a_builder_goes_on_behind_an_error(rt: HostRuntime) -> Result<(), Fail> {
+    let mut builder = FunctionBuilder::new(rt.alloc());
+    assert_eq!(rt; builder.push(b"no", &[]), Err(BuildError::UnknownMnemonic));
+    assert_eq!(rt;
+        builder.push(b"ret", &[NOTHING; 5]),
+        Err(BuildError::Unfit(Misfit::BadOperand))
+    );
+    builder.push(b"ret", &[])?;
+    let function = builder.finish(Word::new(rt.alloc(), b"f")?)?;
+    assert_eq!(rt; function.insns.len(), 1);
+    Ok(())
+}
+
+#[test]
+fn errors_are_plain_words(rt: HostRuntime) -> Result<(), Fail> {
+    let error = BuildError::Unfit(Misfit::BadNumber);
+    let text = format!(in rt.alloc(); "{error}")?;
+    assert_eq!(rt; text.as_str(), "an immediate or a count is out of range");
+    Ok(())
 }

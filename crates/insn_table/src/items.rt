@@ -1,41 +1,42 @@
+//! Lists that contracts see as lists.
 ghost use Rattle.std.specs.Prelude.{◌≡◌, ◌==◌, [], length};
 
 use std::alloc::Global;
 use std::marker::Model;
 
-/// A list of bytes, which contracts see as a list.
+/// A list, which contracts see as one.
 #[derive(Drop)]
-pub struct Bytes {
-    kept: Vec<u8>,
+pub struct Items<T> {
+    kept: Vec<T>,
 }
 
-impl Model for Bytes {
-    ghost use Rattle.std.specs.Prelude.{List, ℕ};
+impl<T> Model for Items<T> {
+    ghost use Rattle.std.specs.Prelude.{List};
 
-    ghost Value = { List ℕ };
+    ghost Value = { List T };
 
-    ghost view = { λ bytes. bytes.kept.items };
+    ghost view = { λ list. list.kept.items };
 }
 
-impl Bytes {
-    /// No bytes.
-    pub fn none(alloc: Global) -> Bytes
+impl<T> Items<T> {
+    /// No items.
+    pub fn none(alloc: Global) -> Items<T>
         ensures { result ≡ [] }
     {
-        Bytes {
+        Items {
             kept: Vec::new(alloc),
         }
     }
 
-    /// The list of these bytes.
-    pub fn of(kept: Vec<u8>) -> Bytes
+    /// The list of these items.
+    pub fn of(kept: Vec<T>) -> Items<T>
         ensures { result ≡ kept.items }
     {
-        Bytes { kept }
+        Items { kept }
     }
 
-    /// Its bytes.
-    pub fn as_slice(&self) -> &[u8]
+    /// Its items.
+    pub fn as_slice(&self) -> &[T]
         ensures { result.now ≡ self.now }
     {
         self.kept.as_slice()
@@ -55,3 +56,6 @@ impl Bytes {
         self.kept.is_empty()
     }
 }
+
+/// A list of bytes.
+pub type Bytes = Items<u8>;
