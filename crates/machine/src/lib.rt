@@ -2,15 +2,11 @@
 #![tactic(auto)]
 
 mod difference;
-#[cfg(test)]
-mod difference_tests;
 mod laws;
 mod operands;
 mod ranges;
 mod spans;
 mod state;
-#[cfg(test)]
-mod tests;
 
 pub use difference::{Difference, difference_law};
 pub use laws::{
