@@ -3,6 +3,7 @@ ghost use Rattle.std.specs.Prelude.{◌≡◌};
 ghost use Rattle.insn_table.specs.declared.build_error.BuildError.TheVariants.{Unfit, OutOfMemory};
 
 use crate::fitting::Misfit;
+use align_base::Memory;
 use std::alloc::AllocFailed;
 use thiserror::Error;
 
@@ -46,6 +47,14 @@ impl<T: Drop> From<AllocFailed<T>> for BuildError {
     ghost from_gives = { λ _ e. e ≡ OutOfMemory };
 
     fn from(_failed: AllocFailed<T>) -> BuildError {
+        BuildError::OutOfMemory
+    }
+}
+
+impl From<Memory> for BuildError {
+    ghost from_gives = { λ _ e. e ≡ OutOfMemory };
+
+    fn from(_failed: Memory) -> BuildError {
         BuildError::OutOfMemory
     }
 }

@@ -144,8 +144,5 @@ pub fn assemble_function(
     for statement in statements {
         builder.push(statement.mnemonic, &statement.args)?;
     }
-    let Ok(name) = Word::new(alloc, name) else {
-        return Err(BuildError::OutOfMemory);
-    };
-    builder.finish(name)
+    builder.finish(Word::new(alloc, name)?)
 }
