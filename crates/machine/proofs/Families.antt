@@ -14,7 +14,7 @@ use Rattle.machine.specs.Kept.{Kept}
 use Rattle.machine.specs.Machine.{Machine}
 use Rattle.runs.specs.Run.{Step, Goes, Returns, Faults, MeetsUnset, tested}
 use Rattle.machine.specs.Runnable.{IsRunnableFunction, JumpsBelow}
-use Rattle.machine.specs.Step.{allows_at, changed, conditional, free_at, goes, gone, insn_step, jump_place, leads_to, step_of}
+use Rattle.machine.specs.Step.{allows_at, after_change, step_where_known, free_at, goes, step_to, insn_step, jump_place, leads_to, step_of}
 use Rattle.machine.specs.Operands.{operand}
 use Rattle.runs.specs.Stepping.{StepsAs}
 
@@ -30,7 +30,7 @@ fault_stays Faults s t end h = h.1
 fault_stays MeetsUnset s t end h = h.1
 
 place_after : (n : ℕ) (holds : Bool) (o : Option Bool) (g : Bool → Step Machine) (s t : Machine) (end : StepEnd) → s.place < n
-    → ((h : Bool) → StepsAs (g h) s end t → t.place < n) → StepsAs (tested holds (conditional o g)) s end t → t.place < n
+    → ((h : Bool) → StepsAs (g h) s end t → t.place < n) → StepsAs (tested holds (step_where_known o g)) s end t → t.place < n
 place_after n true None g s t end at go steps = subst (λ (m : Machine). m.place < n) (sym steps.1) at
 place_after n true (Some h) g s t end at go steps = go h steps
 place_after n false None g s t end at go steps = subst (λ (m : Machine). m.place < n) (sym steps.1) at
@@ -55,7 +55,7 @@ either_place : (n : ℕ) (h : Bool) (a b : ℕ) → a < n → b < n → (if h th
 either_place n true a b p q = p
 either_place n false a b p q = q
 
-gone_within : (n : ℕ) (next : Option ℕ) (s u t : Machine) (end : StepEnd) → s.place < n → IfSome next (λ p. p < n) → StepsAs (gone next u) s end t → t.place < n
+gone_within : (n : ℕ) (next : Option ℕ) (s u t : Machine) (end : StepEnd) → s.place < n → IfSome next (λ p. p < n) → StepsAs (step_to next u) s end t → t.place < n
 gone_within n None s u t end at low steps = subst (λ (m : Machine). m.place < n) (sym steps.1) at
 gone_within n (Some p) s u t end at low steps = subst (λ (m : Machine). m.place < n) (sym steps.1) low
 
@@ -81,7 +81,7 @@ pub stays_inside : (insns : List Insn) (pool : List ℕ) (i : Insn) (s t : Machi
 stays_inside insns pool i s t end f at is steps =
     let kind = family_of i.op in
     place_after (length insns) (allows i s) (holds_of i.op s.flags) (goes kind pool i s) s t end at
-    (λ h. gone_within (length insns) (leads_to kind i s.place h) s (changed kind pool i s h) t end at
+    (λ h. gone_within (length insns) (leads_to kind i s.place h) s (after_change kind pool i s h) t end at
     (leads_within kind (length insns) i s.place h refl (next_place insns s.place i f at is) (f.each s.place i is).jump))
     steps
 

@@ -17,10 +17,10 @@ use Rattle.machine.specs.Family.{family_of, holds_of}
 use Rattle.machine.specs.Frame.{IsWritable, SameFrame, SameUnwritable, has_address, is_writable}
 use Rattle.machine.specs.Machine.{Machine, offset_from, stack_base}
 use Rattle.machine.specs.Memory.{with_word}
-use Rattle.machine.specs.Operands.{effective, operand, with_value}
+use Rattle.machine.specs.Operands.{effective_address, operand, with_value}
 use Rattle.runs.specs.Run.{Step, Goes, Returns, Faults, MeetsUnset, run_of, tested}
-use Rattle.machine.specs.Runnable.{IsRegister}
-use Rattle.machine.specs.Step.{after_row, allows_at, at_place, changed, conditional, free_at, free_insn, goes, gone, leads_to, register_number, result_of, step_of, target_of}
+use Rattle.machine.specs.Runnable.{IsGeneralRegister}
+use Rattle.machine.specs.Step.{after_row, allows_at, at_place, after_change, step_where_known, free_at, free_insn, goes, step_to, leads_to, register_number, result_of, step_of, target_operand}
 use Rattle.machine.specs.declared.state.Region.{Region}
 use Rattle.runs.proofs.Runs.{run_keeps}
 use Rattle.machine.proofs.Writing.{row_allowed}
@@ -41,20 +41,20 @@ tested-leads P false Returns h = tt
 tested-leads P false Faults h = tt
 tested-leads P false MeetsUnset h = tt
 
-conditional-leads : (P : Machine → Type 0) (o : Option Bool) (goes : Bool → Step Machine) → ((b : Bool) → LeadsTo P (goes b)) → LeadsTo P (conditional o goes)
+conditional-leads : (P : Machine → Type 0) (o : Option Bool) (goes : Bool → Step Machine) → ((b : Bool) → LeadsTo P (goes b)) → LeadsTo P (step_where_known o goes)
 conditional-leads P None goes h = tt
 conditional-leads P (Some b) goes h = h b
 
-gone-leads : (P : Machine → Type 0) (next : Option ℕ) (t : Machine) → ((place : ℕ) → P (at_place t place)) → LeadsTo P (gone next t)
+gone-leads : (P : Machine → Type 0) (next : Option ℕ) (t : Machine) → ((place : ℕ) → P (at_place t place)) → LeadsTo P (step_to next t)
 gone-leads P None t h = tt
 gone-leads P (Some place) t h = h place
 
 -- what holds of each changed state, at whatever place, holds of the next state
 pub free-leads : (P : Machine → Type 0) (pool : List ℕ) (i : Insn) (s : Machine)
-    → ((holds : Bool) (place : ℕ) → P (at_place (changed (family_of i.op) pool i s holds) place)) → LeadsTo P (free_insn pool i s)
+    → ((holds : Bool) (place : ℕ) → P (at_place (after_change (family_of i.op) pool i s holds) place)) → LeadsTo P (free_insn pool i s)
 free-leads P pool i s h =
     conditional-leads P (holds_of i.op s.flags) (goes (family_of i.op) pool i s)
-    (λ holds. gone-leads P (leads_to (family_of i.op) i s.place holds) (changed (family_of i.op) pool i s holds) (h holds))
+    (λ holds. gone-leads P (leads_to (family_of i.op) i s.place holds) (after_change (family_of i.op) pool i s holds) (h holds))
 
 -- the frame
 
@@ -73,12 +73,12 @@ choice-frame false s t h = record { entry = refl; regions = refl; stack = refl; 
 
 row-frame : (pool : List ℕ) (i : Insn) (s : Machine) (cond : ℕ) → SameFrame s (after_row pool i s cond)
 row-frame pool i s cond =
-    let h = choice-frame (writes i.op) s (with_value i.w s (target_of i.op i) (result_of pool i s cond))
-    (write-frame i.w s (target_of i.op i) (result_of pool i s cond))
+    let h = choice-frame (writes i.op) s (with_value i.w s (target_operand i.op i) (result_of pool i s cond))
+    (write-frame i.w s (target_operand i.op i) (result_of pool i s cond))
     in
     record { entry = h.entry; regions = h.regions; stack = h.stack; vecs = h.vecs }
 
-changed-frame : (kind : Family) (pool : List ℕ) (i : Insn) (s : Machine) (holds : Bool) → SameFrame s (changed kind pool i s holds)
+changed-frame : (kind : Family) (pool : List ℕ) (i : Insn) (s : Machine) (holds : Bool) → SameFrame s (after_change kind pool i s holds)
 changed-frame Pushing pool i s holds = record { entry = refl; regions = refl; stack = refl; vecs = refl }
 changed-frame Popping pool i s holds = record { entry = refl; regions = refl; stack = refl; vecs = refl }
 changed-frame Branch pool i s holds = record { entry = refl; regions = refl; stack = refl; vecs = refl }
@@ -149,7 +149,7 @@ word-kept s at n word x h =
 -- a write whose access is allowed
 write-kept : (w : ℕ) (s : Machine) (o : Operand) (word : ℕ) → list_all (is_allowed s) (access_of s o w true) ≡ true → SameUnwritable s (with_value w s o word)
 write-kept w s (Mem base index scale disp) word h = λ x.
-    let at = effective s.regs base index scale disp in
+    let at = effective_address s.regs base index scale disp in
     let below : at ≤ 2 ^ 64 = omega arith in
     let holds = (and_parts (is_allowed s (written_from at (w / 8))) true h).0 in
     word-kept s at (w / 8) word x
@@ -165,14 +165,14 @@ write-kept w s Nothing word h = λ x. inl refl
 
 -- What an instruction writes is tested: `lea` makes no access, so its target is no memory.
 abbrev IsTested : Insn → Type 0
-IsTested i = i.op ≡ ops.Lea → is_addressed (target_of ops.Lea i) ≡ false
+IsTested i = i.op ≡ ops.Lea → is_addressed (target_operand ops.Lea i) ≡ false
 
-register-not_addressed : (o : Operand) → IsRegister o → is_addressed o ≡ false
+register-not_addressed : (o : Operand) → IsGeneralRegister o → is_addressed o ≡ false
 register-not_addressed (Reg n w) is = refl
 register-not_addressed _ is = absurd is
 
 table-tested : (i : Insn) → IsTableInsn i → IsTested i
-table-tested i t e = register-not_addressed (target_of ops.Lea i) (lea_register i t e)
+table-tested i t e = register-not_addressed (target_operand ops.Lea i) (lea_register i t e)
 
 choice-kept : (b : Bool) (s t : Machine) → (b ≡ true → SameUnwritable s t) → SameUnwritable s (if b then t else s)
 choice-kept true s t h = h refl
@@ -181,8 +181,8 @@ choice-kept false s t h = λ x. inl refl
 row-kept : (pool : List ℕ) (i : Insn) (s : Machine) (cond : ℕ) → IsTested i → list_all (is_allowed s) (accesses (family_of i.op) i s) ≡ true
     → SameUnwritable s (after_row pool i s cond)
 row-kept pool i s cond lea h =
-    choice-kept (writes i.op) s (with_value i.w s (target_of i.op i) (result_of pool i s cond))
-    (λ writing. write-kept i.w s (target_of i.op i) (result_of pool i s cond) (row_allowed i.op i s writing lea h))
+    choice-kept (writes i.op) s (with_value i.w s (target_operand i.op i) (result_of pool i s cond))
+    (λ writing. write-kept i.w s (target_operand i.op i) (result_of pool i s cond) (row_allowed i.op i s writing lea h))
 
 push-kept : (s : Machine) (word : ℕ) → is_on_stack s (offset_from 8 (stack_pointer s)) ≡ true
     → (x : ℕ) → (with_word s.memory (offset_from 8 (stack_pointer s)) 8 word x ≡ s.memory x) ⊎ IsWritable s x
@@ -195,7 +195,7 @@ push-kept s word h x =
     (tests-inside (2 ^ 64 - stack_base s) at 8 s.stack x below h k))
 
 changed-kept : (kind : Family) (pool : List ℕ) (i : Insn) (s : Machine) (holds : Bool) → family_of i.op ≡ kind → IsTested i → allows_by kind i s ≡ true
-    → SameUnwritable s (changed kind pool i s holds)
+    → SameUnwritable s (after_change kind pool i s holds)
 changed-kept Pushing pool i s holds f lea h = push-kept s (slice_index s.regs (register_number (operand i 0))) h
 changed-kept Popping pool i s holds f lea h = λ x. inl refl
 changed-kept Branch pool i s holds f lea h = λ x. inl refl

@@ -19,10 +19,10 @@ use Rattle.machine.specs.Access.{allows, source_width, stack_pointer, writes}
 use Rattle.machine.specs.Family.{family_of}
 use Rattle.machine.specs.Machine.{AreRegs, IsState, Machine, address_plus, offset_from}
 use Rattle.machine.specs.Memory.{with_word, word_at}
-use Rattle.machine.specs.Operands.{effective, merged, operand, value_of, with_value}
+use Rattle.machine.specs.Operands.{effective_address, register_after, operand, value_of, with_value}
 use Rattle.runs.specs.Run.{Step, Goes, run_of, tested}
 use Rattle.machine.specs.Runnable.{IsRunnable, IsRunnableFunction, IsWidth}
-use Rattle.machine.specs.Step.{after_row, allows_at, changed, free_at, free_insn, insn_step, destination_of, destination_value, register_number, result_of, row_leaves, source_of, source_value, step_of, target_of}
+use Rattle.machine.specs.Step.{after_row, allows_at, after_change, free_at, free_insn, insn_step, destination_operand, destination_value, register_number, result_of, row_leaves, source_operand, source_value, step_of, target_operand}
 use Rattle.machine.proofs.Bytewise.{byte_in_front}
 use Rattle.machine.proofs.Families.{step_at}
 use Rattle.machine.proofs.Frames.{LeadsTo, free-leads, tested-leads}
@@ -52,8 +52,8 @@ value_below : (pool : List ℕ) (w : ℕ) (s : Machine) (o : Operand) → IsWidt
 value_below pool w s (Reg n width) h bytes state = mod_below (slice_index s.regs n) (2 ^ w) (pow_pos w)
 value_below pool w s (Imm v) h bytes state = mod_below v (2 ^ w) (pow_pos w)
 value_below pool w s (Mem base index scale disp) h bytes state =
-    subst (λ (p : ℕ). word_at s.memory (effective s.regs base index scale disp) (w / 8) < p) (bytes_of_width w h)
-    (word_below s.memory (effective s.regs base index scale disp) (w / 8) state.memory)
+    subst (λ (p : ℕ). word_at s.memory (effective_address s.regs base index scale disp) (w / 8) < p) (bytes_of_width w h)
+    (word_below s.memory (effective_address s.regs base index scale disp) (w / 8) state.memory)
 value_below pool w s (Pool n) h bytes state =
     subst (λ (p : ℕ). word_at (λ at. slice_index pool at) n (w / 8) < p) (bytes_of_width w h) (word_below (λ at. slice_index pool at) n (w / 8) bytes)
 value_below pool w s (Vec n width) h bytes state = pow_pos w
@@ -66,10 +66,10 @@ set_regs regs r v within small all = record {
   below = λ n. set-below regs r v n (omega (arith, all.sixteen)) small (all.below n);
 }
 
-merged_at : (w v old word : ℕ) → w ≡ v → (word < 2 ^ v → merged v old word < 2 ^ 64) → word < 2 ^ w → merged w old word < 2 ^ 64
-merged_at w v old word e h k = subst (λ (u : ℕ). word < 2 ^ u → merged u old word < 2 ^ 64) (sym e) h k
+merged_at : (w v old word : ℕ) → w ≡ v → (word < 2 ^ v → register_after v old word < 2 ^ 64) → word < 2 ^ w → register_after w old word < 2 ^ 64
+merged_at w v old word e h k = subst (λ (u : ℕ). word < 2 ^ u → register_after u old word < 2 ^ 64) (sym e) h k
 
-merged_below : (w old word : ℕ) → IsWidth w → old < 2 ^ 64 → word < 2 ^ w → merged w old word < 2 ^ 64
+merged_below : (w old word : ℕ) → IsWidth w → old < 2 ^ 64 → word < 2 ^ w → register_after w old word < 2 ^ 64
 merged_below w old word (inl e) h k = merged_at w 8 old word e (λ small. omega arith) k
 merged_below w old word (inr (inl e)) h k = merged_at w 16 old word e (λ small. omega arith) k
 merged_below w old word (inr (inr (inl e))) h k = merged_at w 32 old word e (λ small. omega arith) k
@@ -85,7 +85,7 @@ memory_below m at n word x h =
 
 write_ranged : (w : ℕ) (s : Machine) (o : Operand) (word : ℕ) → IsWidth w → HasRegisters o → word < 2 ^ w → IsState s → IsState (with_value w s o word)
 write_ranged w s (Reg n width) word h low small state = record {
-  regs = set_regs s.regs n (merged w (slice_index s.regs n) word) low (merged_below w (slice_index s.regs n) word h (state.regs.below n) small) state.regs;
+  regs = set_regs s.regs n (register_after w (slice_index s.regs n) word) low (merged_below w (slice_index s.regs n) word h (state.regs.below n) small) state.regs;
   entry = state.entry;
   vecs = state.vecs;
   memory = state.memory;
@@ -94,7 +94,7 @@ write_ranged w s (Mem base index scale disp) word h low small state = record {
   regs = state.regs;
   entry = state.entry;
   vecs = state.vecs;
-  memory = λ x. memory_below s.memory (effective s.regs base index scale disp) (w / 8) word x state.memory;
+  memory = λ x. memory_below s.memory (effective_address s.regs base index scale disp) (w / 8) word x state.memory;
 }
 write_ranged w s (Imm v) word h low small state = state
 write_ranged w s (Vec n width) word h low small state = state
@@ -110,8 +110,8 @@ choice_ranged false s t h k = h
 row_ranged : (pool : List ℕ) (n : ℕ) (i : Insn) (s : Machine) (cond : ℕ) → IsRunnable n i → result_of pool i s cond < 2 ^ i.w → IsState s
     → IsState (after_row pool i s cond)
 row_ranged pool n i s cond r small state =
-    let t = choice_ranged (writes i.op) s (with_value i.w s (target_of i.op i) (result_of pool i s cond)) state
-    (write_ranged i.w s (target_of i.op i) (result_of pool i s cond) r.width (target_numbers i.op i r.numbers) small state)
+    let t = choice_ranged (writes i.op) s (with_value i.w s (target_operand i.op i) (result_of pool i s cond)) state
+    (write_ranged i.w s (target_operand i.op i) (result_of pool i s cond) r.width (target_numbers i.op i r.numbers) small state)
     in
     record { regs = t.regs; entry = t.entry; vecs = t.vecs; memory = t.memory }
 
@@ -120,9 +120,9 @@ computed_result : (pool : List ℕ) (n : ℕ) (i : Insn) (s : Machine) → famil
     → result_of pool i s 0 < 2 ^ i.w
 computed_result pool n i s f r bytes state =
     let a = destination_value pool i s in
-    let b = value_of pool (source_width i.op i.w) s (source_of i.op i) in
-    let low : a < 2 ^ i.w = value_below pool i.w s (destination_of i.op i) r.width bytes state in
-    let high : b < 2 ^ source_width i.op i.w = value_below pool (source_width i.op i.w) s (source_of i.op i) (source_is_width i.op i r.width r.row) bytes state in
+    let b = value_of pool (source_width i.op i.w) s (source_operand i.op i) in
+    let low : a < 2 ^ i.w = value_below pool i.w s (destination_operand i.op i) r.width bytes state in
+    let high : b < 2 ^ source_width i.op i.w = value_below pool (source_width i.op i.w) s (source_operand i.op i) (source_is_width i.op i r.width r.row) bytes state in
     let small : computed i.op i.w a b < 2 ^ i.w = computed_below i.op i.w a b (row_computes pool i.op i s a b f r.width r.row low high refl) in
     let same : computed i.op i.w a b ≡ result_of pool i s 0 = sym (computes i.op i.w 0 a b f) ∙ (λ j. value (row_leaves a (sym (source_read pool i.op i s f) j) 0) (row_expr i.op i.w (sym (source_read pool i.op i s f) j))) in
     subst (λ (x : ℕ). x < 2 ^ i.w) same small
@@ -145,10 +145,10 @@ choice_below : (pool : List ℕ) (n : ℕ) (i : Insn) (s : Machine) (holds : Boo
 choice_below pool n i s holds f r bytes state =
     let b = source_value pool i.op i s in
     let high : b < 2 ^ i.w = subst (λ (x : ℕ). x < 2 ^ i.w) (sym (choice_source pool i.op i s f))
-    (subst (λ (w : ℕ). value_of pool (source_width i.op i.w) s (source_of i.op i) < 2 ^ w) (choice_width i.op i.w f)
-    (value_below pool (source_width i.op i.w) s (source_of i.op i) (source_is_width i.op i r.width r.row) bytes state)) in
+    (subst (λ (w : ℕ). value_of pool (source_width i.op i.w) s (source_operand i.op i) < 2 ^ w) (choice_width i.op i.w f)
+    (value_below pool (source_width i.op i.w) s (source_operand i.op i) (source_is_width i.op i r.width r.row) bytes state)) in
     subst (λ (x : ℕ). x < 2 ^ i.w) (sym (choice_result i.op i.w (destination_value pool i s) b holds f))
-    (either_word holds b (destination_value pool i s) (2 ^ i.w) high (value_below pool i.w s (destination_of i.op i) r.width bytes state))
+    (either_word holds b (destination_value pool i s) (2 ^ i.w) high (value_below pool i.w s (destination_operand i.op i) r.width bytes state))
 
 bit_small : (b : Bool) → bit b < 2
 bit_small true = lit< tt
@@ -169,7 +169,7 @@ number_below (Reg n w) h = h
 number_below _ h = lit< tt
 
 changed_ranged : (kind : Family) (pool : List ℕ) (n : ℕ) (i : Insn) (s : Machine) (holds : Bool) → family_of i.op ≡ kind → IsRunnable n i → IsPool pool → IsState s
-    → IsState (changed kind pool i s holds)
+    → IsState (after_change kind pool i s holds)
 changed_ranged Computing pool n i s holds f r bytes state = row_ranged pool n i s 0 r (computed_result pool n i s f r bytes state) state
 changed_ranged Address pool n i s holds f r bytes state = row_ranged pool n i s 0 r (address_below pool i s f) state
 changed_ranged Choice pool n i s holds f r bytes state = row_ranged pool n i s (bit holds) r (choice_below pool n i s holds f r bytes state) state

@@ -4,7 +4,7 @@ ghost use Rattle.machine.specs.Access as access;
 ghost use Rattle.machine.specs.Family.{holds_of};
 ghost use Rattle.machine.specs.Machine.{IsStart, offset_from};
 ghost use Rattle.machine.specs.Operands as operands;
-ghost use Rattle.machine.specs.Ready.{completed, IsReady};
+ghost use Rattle.machine.specs.Ready.{finished_row, IsReady};
 ghost use Rattle.machine.specs.Spanned.{IsSpanned};
 ghost use Rattle.runs.specs.Run.{run_of};
 ghost use Rattle.machine.specs.Step as steps;
@@ -17,8 +17,8 @@ ghost use Rattle.machine.specs.Kept.{AreOrdered, IsKept, pure_of};
 ghost use Rattle.machine.specs.Start.{IsCopy, kept_start};
 
 use crate::operands::{
-    Family, arity, condition, destination, displacement_of, jump_place, low_bits, merged,
-    op_family, operand, register_number, source, source_width, target, width_at, writes,
+    Family, arity, condition, destination, displacement_of, jump_place, low_bits,
+    op_family, operand, register_after, register_number, source, source_width, target, width_at, writes,
 };
 use crate::ranges::{are_regs, are_vecs, spans_hold_bytes};
 use crate::spans::{byte_at, copy_spans, put_word, word_in, word_of};
@@ -189,9 +189,9 @@ impl State {
 // What a step reads.
 impl State {
     // What a base or an index adds to an address.
-    fn held(&self, n: Option<u8>) -> u64
+    fn register_or_zero(&self, n: Option<u8>) -> u64
         requires { IfSome n (λ r. r < 16) }
-        ensures { result ≡ operands.held self.now.regs n }
+        ensures { result ≡ operands.register_or_zero self.now.regs n }
     {
         match n {
             None => 0,
@@ -211,8 +211,8 @@ impl State {
                 scale,
                 disp,
             } => self
-                .held(base)
-                .wrapping_add(self.held(index).wrapping_mul(scale as u64))
+                .register_or_zero(base)
+                .wrapping_add(self.register_or_zero(index).wrapping_mul(scale as u64))
                 .wrapping_add(displacement_of(disp)),
             _ => 0,
         }
@@ -305,7 +305,7 @@ impl State {
         match target {
             Operand::Reg { n, .. } => {
                 let old = self.regs[n as usize];
-                self.regs[n as usize] = merged(w, old, word);
+                self.regs[n as usize] = register_after(w, old, word);
             }
             Operand::Mem { .. } => {
                 let at = self.address(target);
@@ -320,9 +320,9 @@ impl State {
         requires width { IsWidth insn.now.w }
         requires word { word < 2 ^ insn.now.w }
         requires numbers { (n : ℕ) → HasRegisters (operands.operand insn.now n) }
-        requires spanned { access.writes insn.now.op ≡ true → IsSpanned self.old insn.now.w (steps.target_of insn.now.op insn.now) }
+        requires spanned { access.writes insn.now.op ≡ true → IsSpanned self.old insn.now.w (steps.target_operand insn.now.op insn.now) }
         ensures state { pure_of self.new ≡ (if access.writes insn.now.op
-            then operands.with_value insn.now.w (pure_of self.old) (steps.target_of insn.now.op insn.now) word else pure_of self.old) }
+            then operands.with_value insn.now.w (pure_of self.old) (steps.target_operand insn.now.op insn.now) word else pure_of self.old) }
         ensures place { self.new.place ≡ self.old.place }
     {
         if writes(insn.op) {
@@ -335,8 +335,8 @@ impl State {
         requires width { IsWidth insn.now.w }
         requires word { word < 2 ^ insn.now.w }
         requires numbers { (n : ℕ) → HasRegisters (operands.operand insn.now n) }
-        requires spanned { access.writes insn.now.op ≡ true → IsSpanned self.old insn.now.w (steps.target_of insn.now.op insn.now) }
-        ensures { pure_of self.new ≡ completed insn.now (pure_of self.old) word flags }
+        requires spanned { access.writes insn.now.op ≡ true → IsSpanned self.old insn.now.w (steps.target_operand insn.now.op insn.now) }
+        ensures { pure_of self.new ≡ finished_row insn.now (pure_of self.old) word flags }
     {
         self.put_result(insn, word);
         self.flags = flags;
@@ -360,7 +360,7 @@ impl State {
         requires numbers { (n : ℕ) → HasRegisters (operands.operand insn.now n) }
         requires row { HasRowOf insn.now.op insn.now }
         ensures value { result ≡ operands.value_of pool.now (access.source_width insn.now.op insn.now.w) (pure_of self.now)
-            (steps.source_of insn.now.op insn.now) }
+            (steps.source_operand insn.now.op insn.now) }
         ensures below { result < 2 ^ access.source_width insn.now.op insn.now.w }
     {
         self.value(pool, source_width(insn.op, insn.w), source(insn))
@@ -413,7 +413,7 @@ impl State {
     // `push`: the old value, also of the stack pointer itself.
     fn push(&mut self, insn: &Insn)
         requires { IsReady Family.Pushing insn.now self.old }
-        ensures { pure_of self.new ≡ steps.pushed insn.now (pure_of self.old) }
+        ensures { pure_of self.new ≡ steps.after_push insn.now (pure_of self.old) }
     {
         let n = register_number(operand(insn, 0));
         let value = self.regs[n as usize];
@@ -425,7 +425,7 @@ impl State {
     // `pop`: into the stack pointer, the value read stays.
     fn pop(&mut self, insn: &Insn)
         requires { IsReady Family.Popping insn.now self.old }
-        ensures { pure_of self.new ≡ steps.popped insn.now (pure_of self.old) }
+        ensures { pure_of self.new ≡ steps.after_pop insn.now (pure_of self.old) }
     {
         let n = register_number(operand(insn, 0));
         let at = self.regs[4];
@@ -438,7 +438,7 @@ impl State {
     // this value.
     fn change(&mut self, family: Family, pool: &[u8], insn: &Insn, holds: bool)
         requires { IsReady family insn.now self.old }
-        ensures { pure_of self.new ≡ steps.changed family pool.now insn.now (pure_of self.old) holds }
+        ensures { pure_of self.new ≡ steps.after_change family pool.now insn.now (pure_of self.old) holds }
     {
         match family {
             Family::Computing => self.compute(pool, insn),
