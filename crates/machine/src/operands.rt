@@ -1,3 +1,4 @@
+//! What the code reads of an instruction: its operands, their widths, its family and its condition.
 ghost use Rattle.std.specs.Prelude.{◌≡◌, ◌+◌, ◌%◌, ◌*◌, ◌^◌, ◌<◌};
 ghost use Rattle.insn_table.specs.Forms.{is_nothing};
 ghost use Rattle.machine.specs.Access as access;
