@@ -1,0 +1,4 @@
+pub mod Chains
+pub mod Leads
+pub mod Pace
+pub mod Related
