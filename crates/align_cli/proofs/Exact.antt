@@ -9,8 +9,8 @@ use Rattle.align_base.specs.declared.status.Status.TheVariants as status
 use Rattle.insn_table.specs.declared.insn.Insn.{Insn}
 use Rattle.insn_table.specs.declared.insn.Function.{Function}
 use Rattle.machine.specs.Machine.{Machine, rax}
-use Rattle.machine.specs.Run.{Run}
-use Rattle.machine.specs.declared.state.RunEnd.{RunEnd}
+use Rattle.runs.specs.Run.{Run}
+use Rattle.runs.specs.declared.ends.RunEnd.{RunEnd}
 use Rattle.att_reader.specs.PlainText.{IsPlainText}
 use Rattle.att_reader.specs.Refusals.{IsRefused}
 use Rattle.att_reader.proofs.PlainTexts.{plain-once}

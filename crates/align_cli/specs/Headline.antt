@@ -12,11 +12,11 @@ use Rattle.align_base.specs.declared.status.Status.TheVariants as status
 use Rattle.insn_table.specs.declared.insn.Insn.{Insn}
 use Rattle.insn_table.specs.declared.insn.Function.{Function}
 use Rattle.machine.specs.Difference.{SamePlainEnd}
-use Rattle.machine.specs.Equivalent.{AreEquivalent}
+use Rattle.runs.specs.Equivalent.{AreEquivalent}
 use Rattle.machine.specs.Machine.{Machine, IsPlainStart, rax}
-use Rattle.machine.specs.Run.{Step, end_of, run_of}
+use Rattle.runs.specs.Run.{Step, end_of, run_of}
 use Rattle.machine.specs.Step.{step_of}
-use Rattle.machine.specs.declared.state.RunEnd.TheVariants.{Returned, Faulted}
+use Rattle.runs.specs.declared.ends.RunEnd.TheVariants.{Returned, Faulted}
 use Rattle.att_reader.specs.declared.refusal.ReadRefusal.{ReadRefusal}
 use Rattle.att_reader.specs.PlainText.{IsPlainText}
 use Rattle.att_reader.specs.Refusals.{IsRefused}

@@ -7,16 +7,16 @@ use Rattle.insn_table.specs.declared.insn.Insn.{Insn}
 use Rattle.insn_table.specs.Closed.{IsLeaving}
 use Rattle.machine.specs.declared.operands.Family.{Family}
 use Rattle.machine.specs.declared.operands.Family.TheVariants.{Branch, Jump, Return}
-use Rattle.machine.specs.declared.state.StepEnd.{StepEnd}
+use Rattle.runs.specs.declared.ends.StepEnd.{StepEnd}
 use Rattle.machine.specs.Access.{allows}
 use Rattle.machine.specs.Family.{family_of, holds_of}
 use Rattle.machine.specs.Kept.{Kept}
 use Rattle.machine.specs.Machine.{Machine}
-use Rattle.machine.specs.Run.{Step, Goes, Returns, Faults, MeetsUnset, tested}
+use Rattle.runs.specs.Run.{Step, Goes, Returns, Faults, MeetsUnset, tested}
 use Rattle.machine.specs.Runnable.{IsRunnableFunction, JumpsBelow}
 use Rattle.machine.specs.Step.{allows_at, changed, conditional, free_at, goes, gone, insn_step, jump_place, leads_to, step_of}
 use Rattle.machine.specs.Operands.{operand}
-use Rattle.machine.specs.Stepping.{StepsAs}
+use Rattle.runs.specs.Stepping.{StepsAs}
 
 -- the step at a known instruction
 pub step_at : (insns : List Insn) (pool : List ℕ) (s : Machine) (i : Insn) → slice_get insns s.place ≡ Some i → step_of insns pool s ≡ insn_step pool i s

@@ -18,11 +18,11 @@ use Rattle.machine.specs.Frame.{IsWritable, SameFrame, SameUnwritable, has_addre
 use Rattle.machine.specs.Machine.{Machine, offset_from, stack_base}
 use Rattle.machine.specs.Memory.{with_word}
 use Rattle.machine.specs.Operands.{effective, operand, with_value}
-use Rattle.machine.specs.Run.{Step, Goes, Returns, Faults, MeetsUnset, run_of, tested}
+use Rattle.runs.specs.Run.{Step, Goes, Returns, Faults, MeetsUnset, run_of, tested}
 use Rattle.machine.specs.Runnable.{IsRegister}
 use Rattle.machine.specs.Step.{after_row, allows_at, at_place, changed, conditional, free_at, free_insn, goes, gone, leads_to, register_number, result_of, step_of, target_of}
 use Rattle.machine.specs.declared.state.Region.{Region}
-use Rattle.machine.proofs.Runs.{run_keeps}
+use Rattle.runs.proofs.Runs.{run_keeps}
 use Rattle.machine.proofs.Writing.{row_allowed}
 use Rattle.machine.proofs.Closed.{lea_register}
 use Rattle.machine.proofs.MemoryWords.{with_word-if}

@@ -6,15 +6,15 @@ use Rattle.align_base.specs.declared.output.Output.TheVariants.{Reg}
 use Rattle.insn_table.specs.declared.insn.Insn.{Insn}
 use Rattle.insn_table.specs.Plain.{IsPlain}
 use Rattle.machine.specs.Difference.{Agree, SamePlainEnd}
-use Rattle.machine.specs.Equivalent.{AreEquivalent}
+use Rattle.runs.specs.Equivalent.{AreEquivalent}
 use Rattle.machine.specs.Machine.{AreRegs, Machine, IsPlainStart, rax}
-use Rattle.machine.specs.Run.{run_of, end_of}
+use Rattle.runs.specs.Run.{run_of, end_of}
 use Rattle.machine.specs.Step.{step_of}
 use Rattle.machine.specs.Straight.{regs_through, OnlyReturns}
-use Rattle.machine.specs.declared.state.RunEnd.TheVariants.{Returned, Faulted, Unset}
+use Rattle.runs.specs.declared.ends.RunEnd.TheVariants.{Returned, Faulted, Unset}
 use Rattle.machine.proofs.Keeping.{moves_keep_regs}
 use Rattle.machine.proofs.PlainRuns.{plain-returns, state_through, through_frame, through-memory, through-regs}
-use Rattle.machine.proofs.Returning.{returned_only, never_faulted, never_unset, returning_equivalent}
+use Rattle.runs.proofs.Returning.{returned_only, never_faulted, never_unset, returning_equivalent}
 
 -- the end of a plain function from a start state
 abbrev pub plain_end : {insns : List Insn} → List ℕ → IsPlain insns → Machine → Machine

@@ -12,14 +12,14 @@ use Rattle.machine.specs.Family.{family_of, holds_of}
 use Rattle.machine.specs.Frame.{SameFrame}
 use Rattle.machine.specs.Machine.{AreRegs, IsPlainStart, Machine, entry_pointer}
 use Rattle.machine.specs.Operands.{operand}
-use Rattle.machine.specs.Run.{Goes, Returns, run_of, tested}
+use Rattle.runs.specs.Run.{Goes, Returns, run_of, tested}
 use Rattle.machine.specs.Step.{conditional, goes, step_of}
 use Rattle.machine.specs.Straight.{computed, regs_after, regs_through, value_at, written}
-use Rattle.machine.specs.declared.state.RunEnd.TheVariants.{Returned, Running}
+use Rattle.runs.specs.declared.ends.RunEnd.TheVariants.{Returned, Running}
 use Rattle.machine.proofs.Keeping.{move_keeps_regs}
 use Rattle.machine.proofs.Families.{step_at}
 use Rattle.machine.proofs.Moves.{moved, step_moves}
-use Rattle.machine.proofs.Runs.{one_more}
+use Rattle.runs.proofs.Runs.{one_more}
 
 free-kept : (o : Operand) (regs : List ℕ) (v : ℕ) → IsRegister o → IsFree o → slice_index (written regs o v) 4 ≡ slice_index regs 4
 free-kept (Reg n w) regs v is free = get_or-set_other regs n 4 v 0 (λ e. free (sym e))

@@ -20,7 +20,7 @@ use Rattle.machine.specs.Family.{family_of}
 use Rattle.machine.specs.Machine.{AreRegs, IsState, Machine, address_plus, offset_from}
 use Rattle.machine.specs.Memory.{with_word, word_at}
 use Rattle.machine.specs.Operands.{effective, merged, operand, value_of, with_value}
-use Rattle.machine.specs.Run.{Step, Goes, run_of, tested}
+use Rattle.runs.specs.Run.{Step, Goes, run_of, tested}
 use Rattle.machine.specs.Runnable.{IsRunnable, IsRunnableFunction, IsWidth}
 use Rattle.machine.specs.Step.{after_row, allows_at, changed, free_at, free_insn, insn_step, destination_of, destination_value, register_number, result_of, row_leaves, source_of, source_value, step_of, target_of}
 use Rattle.machine.proofs.Bytewise.{byte_in_front}
@@ -29,7 +29,7 @@ use Rattle.machine.proofs.Frames.{LeadsTo, free-leads, tested-leads}
 use Rattle.machine.proofs.Keeping.{set-below}
 use Rattle.machine.proofs.MemoryWords.{with_word-if, word_at-suc}
 use Rattle.machine.proofs.RowValues.{address_result, choice_result, choice_source, computes, row_computes, setting_result, source_is_width, source_read}
-use Rattle.machine.proofs.Runs.{run_keeps}
+use Rattle.runs.proofs.Runs.{run_keeps}
 use Rattle.machine.proofs.Targets.{target_numbers}
 
 -- each of a pool is a byte

@@ -21,7 +21,7 @@ use Rattle.machine.specs.Family.{family_of, holds_of}
 use Rattle.machine.specs.Machine.{Machine, address_plus, offset_from}
 use Rattle.machine.specs.Memory.{with_word, word_at}
 use Rattle.machine.specs.Operands.{address_of, operand, value_of, with_value}
-use Rattle.machine.specs.Run.{Step, Goes, Returns, Faults, MeetsUnset, guarded, tested}
+use Rattle.runs.specs.Run.{Step, Goes, Returns, Faults, MeetsUnset, guarded, tested}
 
 -- The operands of a row by their number: of one operand it is the destination; of two the second is the destination and
 -- the first the source; of three the third is written with what the second and the first give. `cltq` has none and is

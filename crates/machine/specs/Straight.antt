@@ -10,9 +10,9 @@ use Rattle.insn_table.specs.Plain.{IsPlain}
 use Rattle.machine.specs.Frame.{SameFrame}
 use Rattle.machine.specs.Machine.{AreRegs, IsPlainStart, Machine}
 use Rattle.machine.specs.Operands.{operand}
-use Rattle.machine.specs.Run.{end_of, run_of}
+use Rattle.runs.specs.Run.{end_of, run_of}
 use Rattle.machine.specs.Step.{step_of}
-use Rattle.machine.specs.declared.state.RunEnd.TheVariants.{Returned, Faulted, Unset}
+use Rattle.runs.specs.declared.ends.RunEnd.TheVariants.{Returned, Faulted, Unset}
 
 -- what a source of 64 bits holds
 abbrev pub value_at : List ℕ → Operand → ℕ

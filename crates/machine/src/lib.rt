@@ -17,4 +17,5 @@ pub use laws::{
     memory_law, path_law, plain_functions_agree, plain_functions_return, run_law, state_law,
     step_frame_law, way_law,
 };
-pub use state::{Region, RunEnd, Span, State, StepEnd};
+pub use runs::{RunEnd, StepEnd};
+pub use state::{Region, Span, State};

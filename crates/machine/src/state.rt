@@ -6,9 +6,9 @@ ghost use Rattle.machine.specs.Machine.{IsStart, offset_from};
 ghost use Rattle.machine.specs.Operands as operands;
 ghost use Rattle.machine.specs.Ready.{completed, IsReady};
 ghost use Rattle.machine.specs.Spanned.{IsSpanned};
-ghost use Rattle.machine.specs.Run.{run_of};
+ghost use Rattle.runs.specs.Run.{run_of};
 ghost use Rattle.machine.specs.Step as steps;
-ghost use Rattle.machine.specs.Stepping.{StepsAs};
+ghost use Rattle.runs.specs.Stepping.{StepsAs};
 ghost use Rattle.instruction_semantics.specs.Words.{bit};
 ghost use Rattle.machine.specs.Runnable.{HasRowOf, IsRunnable, IsWidth};
 ghost use Rattle.insn_table.specs.Closed.{IsClosed};
@@ -26,31 +26,9 @@ use align_base::{Flags, Memory};
 use insn_table::{Function, Insn, Op, Operand};
 use lane_ops::{flags, scalar};
 use lane_views::Bytes32;
+use runs::{RunEnd, StepEnd};
 use std::alloc::Global;
 use std::marker::Model;
-
-/// How a step ended.
-#[derive(Clone, Copy, Debug, PartialEq, Eq)]
-pub enum StepEnd {
-    /// The next instruction follows.
-    Next,
-    /// The function returned.
-    Return,
-    /// An access or a return was not allowed.
-    Fault,
-    /// A flag was read that is not set.
-    Unset,
-}
-
-/// How a run ended, with the number of the step that ended it, counted from 1.
-#[derive(Clone, Copy, Debug, PartialEq, Eq)]
-pub enum RunEnd {
-    Returned(u64),
-    Faulted(u64),
-    Unset(u64),
-    /// It has not ended yet.
-    Running,
-}
 
 /// A region of memory: `len` bytes from `base` on, which may be read, and written where `write` is.
 #[derive(Clone, Copy, Debug, PartialEq, Eq)]

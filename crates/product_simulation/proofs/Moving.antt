@@ -2,11 +2,11 @@
 use Rattle.std.proofs.Common.{◌≡◌, ◌≢◌, ℕ, zero, suc, ◌+◌, ◌*◌, ◌==◌, ◌<◌, ◌≤◌, ◌⊎◌, inl, inr, All, Bool, true, false, List, [], ◌∷◌, length, max, Option, Some, None, slice_get, refl, sym, ◌∙◌, ap, subst, eqb-true, if◌then◌else◌, arith}
 use Rattle.std.proofs.lemmas.Option.{get_or_from_slice_get, slice_get_within}
 use Rattle.std.proofs.lemmas.List.Elements.{All-get_or}
-use Rattle.machine.specs.Run.{Run, Step, run_of}
-use Rattle.machine.specs.Path.{Way, Through, Back, Fell, way}
-use Rattle.machine.specs.declared.state.RunEnd.TheVariants.{Returned, Faulted, Running}
-use Rattle.machine.proofs.Paths.{way-back, way-fell, way-through}
-use Rattle.machine.proofs.Runs.{faulted_stays}
+use Rattle.runs.specs.Run.{Run, Step, run_of}
+use Rattle.runs.specs.Path.{Way, Through, Back, Fell, way}
+use Rattle.runs.specs.declared.ends.RunEnd.TheVariants.{Returned, Faulted, Running}
+use Rattle.runs.proofs.Paths.{way-back, way-fell, way-through}
+use Rattle.runs.proofs.Runs.{faulted_stays}
 use Rattle.products.specs.declared.product.PEdge.{PEdge}
 use Rattle.products.specs.declared.product.PNode.{PNode}
 use Rattle.products.specs.declared.product.Product.{Product}

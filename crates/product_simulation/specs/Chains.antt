@@ -1,7 +1,7 @@
 -- Chains of functions, each equivalent to the next, over states and functions of any kind.
 use Rattle.std.specs.Prelude.{ℕ, List, [], ◌∷◌}
-use Rattle.machine.specs.Run.{Step}
-use Rattle.machine.specs.Equivalent.{AreEquivalent}
+use Rattle.runs.specs.Run.{Step}
+use Rattle.runs.specs.Equivalent.{AreEquivalent}
 
 -- the next function of a chain, and the bound of its equivalence with the one before it
 pub record Link (F : Type 0) : Type 0 where

@@ -1,8 +1,8 @@
 -- What an edge of a product says of two runs, over states of any kind: they go on along its paths into the relation of the
 -- node that it leads to, or both fault within them. Node 1 is the exit, where both have returned.
 use Rattle.std.specs.Prelude.{◌≡◌, ◌≢◌, ◌⊎◌, ℕ, ◌==◌, ◌<◌, List, length, Option, None, Some, slice_get, if◌then◌else◌}
-use Rattle.machine.specs.Run.{Step}
-use Rattle.machine.specs.Path.{Way, Through, Back, Fell, way}
+use Rattle.runs.specs.Run.{Step}
+use Rattle.runs.specs.Path.{Way, Through, Back, Fell, way}
 use Rattle.products.specs.declared.product.PEdge.{PEdge}
 use Rattle.products.specs.declared.product.PNode.{PNode}
 use Rattle.products.specs.declared.product.Product.{Product}

@@ -1,7 +1,7 @@
 -- The sharper bound, over states of any kind.
 use Rattle.std.specs.Prelude.{◌≡◌, ℕ, ◌*◌}
-use Rattle.machine.specs.Run.{Step, end_of}
-use Rattle.machine.specs.declared.state.RunEnd.TheVariants.{Returned, Faulted}
+use Rattle.runs.specs.Run.{Step, end_of}
+use Rattle.runs.specs.declared.ends.RunEnd.TheVariants.{Returned, Faulted}
 
 -- From this state, where f returns or faults within n steps, g does the same within k * n.
 pub record KeepsPace {S : Type 0} (k : ℕ) (f g : S → Step S) (s : S) : Type 0 where

@@ -1,7 +1,7 @@
 use Rattle.machine.specs.Kept.{pure_of}
 use Rattle.machine.specs.Step.{step_of}
-use Rattle.machine.proofs.RunEnds.{run-next, run-unset}
-use Rattle.machine.proofs.Runs.{run-returned, run-faulted}
+use Rattle.runs.proofs.RunEnds.{run-next, run-unset}
+use Rattle.runs.proofs.Runs.{run-returned, run-faulted}
 use Rattle.machine.proofs.state.State.run.Goals as goal
 
 pub returns-in-Return-clause-runs : goal.returns-in-Return-clause-runs

@@ -1,7 +1,7 @@
 -- What a run does along a path of places and on into the next place, over states of any kind.
 use Rattle.std.specs.Prelude.{◌≡◌, ℕ, suc, ◌==◌, ◌<◌, ◌≤◌, Bool, true, false, ◌&&◌, List, [], ◌∷◌, length, Option, Some, None, if◌then◌else◌}
-use Rattle.machine.specs.Run.{Step, Goes, Returns, Faults, MeetsUnset, run_of, guarded}
-use Rattle.machine.specs.declared.state.RunEnd.TheVariants.{Faulted, Running}
+use Rattle.runs.specs.Run.{Step, Goes, Returns, Faults, MeetsUnset, run_of, guarded}
+use Rattle.runs.specs.declared.ends.RunEnd.TheVariants.{Faulted, Running}
 
 pub data Way (S : Type 0) : Type 0 where
   Through : S → Way S  -- each step of the path was taken, and it stands at the next place

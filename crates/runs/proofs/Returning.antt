@@ -1,9 +1,9 @@
 -- Functions over states of any kind that return from a start state: all their other ends are this one.
 use Rattle.std.proofs.Common.{◌≡◌, ◌≢◌, ℕ, ◌+◌, ◌*◌, ◌≤◌, sym, ap, subst, arith}
-use Rattle.machine.specs.Equivalent.{Follows, AreEquivalent}
-use Rattle.machine.specs.Run.{Step, Run, run_of, end_of}
-use Rattle.machine.specs.declared.state.RunEnd.TheVariants.{Returned, Faulted, Unset}
-use Rattle.machine.proofs.Runs.{both_returned, returned_stays, run_by_end, same_end_of_both}
+use Rattle.runs.specs.Equivalent.{Follows, AreEquivalent}
+use Rattle.runs.specs.Run.{Step, Run, run_of, end_of}
+use Rattle.runs.specs.declared.ends.RunEnd.TheVariants.{Returned, Faulted, Unset}
+use Rattle.runs.proofs.Runs.{both_returned, returned_stays, run_by_end, same_end_of_both}
 
 -- A run that returns has no other return,
 pub returned_only : {S : Type 0} (step : S → Step S) (s t : S) (i n : ℕ) → run_of step s n ≡ (t, Returned i)

@@ -1,7 +1,7 @@
 -- Steps and runs, over states of any kind.
 use Rattle.std.specs.Prelude.{ℕ, zero, suc, ◌+◌, Bool, true, false}
-use Rattle.machine.specs.declared.state.RunEnd.{RunEnd}
-use Rattle.machine.specs.declared.state.RunEnd.TheVariants.{Returned, Faulted, Unset, Running}
+use Rattle.runs.specs.declared.ends.RunEnd.{RunEnd}
+use Rattle.runs.specs.declared.ends.RunEnd.TheVariants.{Returned, Faulted, Unset, Running}
 
 -- what one step does
 pub data Step (S : Type 0) : Type 0 where

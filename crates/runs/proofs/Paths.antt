@@ -1,10 +1,10 @@
 -- Paths over states of any kind: what a way says of the run, and what the tests make of a way of the free step.
 use Rattle.std.proofs.Common.{◌≡◌, ℕ, zero, suc, ◌+◌, ◌==◌, ◌<◌, Bool, true, false, ◌&&◌, List, [], ◌∷◌, length, Option, None, Some, if◌then◌else◌, refl, sym, ◌∙◌, ap, eqb-true, arith}
-use Rattle.machine.specs.Path.{Arrived, FallsAtFirst, FallsWithin, Way, Through, Back, Fell, Off, allowed_after, allowed_along, rested, walked, way}
-use Rattle.machine.specs.Run.{Run, Step, Goes, Returns, Faults, MeetsUnset, ended_by, later, run_of, guarded, tested}
-use Rattle.machine.specs.declared.state.RunEnd.{RunEnd}
-use Rattle.machine.specs.declared.state.RunEnd.TheVariants.{Returned, Faulted, Unset, Running}
-use Rattle.machine.proofs.Runs.{run-goes}
+use Rattle.runs.specs.Path.{Arrived, FallsAtFirst, FallsWithin, Way, Through, Back, Fell, Off, allowed_after, allowed_along, rested, walked, way}
+use Rattle.runs.specs.Run.{Run, Step, Goes, Returns, Faults, MeetsUnset, ended_by, later, run_of, guarded, tested}
+use Rattle.runs.specs.declared.ends.RunEnd.{RunEnd}
+use Rattle.runs.specs.declared.ends.RunEnd.TheVariants.{Returned, Faulted, Unset, Running}
+use Rattle.runs.proofs.Runs.{run-goes}
 
 -- A way that begins at its first place, and one that begins elsewhere, which is off.
 at_first : {S : Type 0} (b : Bool) (w v : Way S) → (if b then w else Off) ≡ v → (v ≡ Off → ⊥) → (b ≡ true) × (w ≡ v)

@@ -1,7 +1,7 @@
 -- Two functions are equivalent within a bound, by the steps of each, over states of any kind.
 use Rattle.std.specs.Prelude.{◌≡◌, ◌≢◌, ℕ, ◌+◌, ◌*◌}
-use Rattle.machine.specs.Run.{Step, run_of, end_of}
-use Rattle.machine.specs.declared.state.RunEnd.TheVariants.{Returned, Faulted, Unset}
+use Rattle.runs.specs.Run.{Step, run_of, end_of}
+use Rattle.runs.specs.declared.ends.RunEnd.TheVariants.{Returned, Faulted, Unset}
 
 -- From this state, where f returns or faults within n steps, g does the same within k * (n + 1), and f meets no unset flag.
 pub record Follows {S : Type 0} (k : ℕ) (f g : S → Step S) (s : S) : Type 0 where

@@ -1,10 +1,10 @@
 -- Runs over states of any kind: a run that is over stays, and two runs of one start have one end.
 use Rattle.std.proofs.Common.{◌≡◌, ℕ, zero, suc, ◌+◌, ◌-◌, ◌<◌, ◌≤◌, refl, sym, ◌∙◌, ap, subst, add-zero, add-suc, add-one, add_comm, arith}
-use Rattle.machine.specs.Run.{Step, Goes, Returns, Faults, MeetsUnset, IsOver, Run, end_of, ended_by, later, run_of, stepped}
-use Rattle.machine.specs.Stepping.{StepsAs}
-use Rattle.machine.specs.declared.state.RunEnd.{RunEnd}
-use Rattle.machine.specs.declared.state.RunEnd.TheVariants.{Returned, Faulted, Unset, Running}
-use Rattle.machine.specs.declared.state.StepEnd.TheVariants as ends
+use Rattle.runs.specs.Run.{Step, Goes, Returns, Faults, MeetsUnset, IsOver, Run, end_of, ended_by, later, run_of, stepped}
+use Rattle.runs.specs.Stepping.{StepsAs}
+use Rattle.runs.specs.declared.ends.RunEnd.{RunEnd}
+use Rattle.runs.specs.declared.ends.RunEnd.TheVariants.{Returned, Faulted, Unset, Running}
+use Rattle.runs.specs.declared.ends.StepEnd.TheVariants as ends
 
 over_stays : {S : Type 0} (step : S → Step S) (t : S) (n : ℕ) (e : RunEnd) → IsOver e → stepped step n (t, e) ≡ (t, e)
 over_stays step t n (Returned i) over = refl

@@ -1,10 +1,10 @@
 -- How the code's run goes on, and how it ends where a flag is unset.
 use Rattle.std.proofs.Common.{◌≡◌, ℕ, suc, ◌+◌, ◌<◌, refl, sym, ◌∙◌, add-one, arith}
-use Rattle.machine.specs.Run.{Step, Goes, Returns, Faults, MeetsUnset, run_of}
-use Rattle.machine.specs.Stepping.{StepsAs}
-use Rattle.machine.specs.declared.state.RunEnd.TheVariants.{Running, Unset}
-use Rattle.machine.specs.declared.state.StepEnd.TheVariants as ends
-use Rattle.machine.proofs.Runs.{one_more, stays_over}
+use Rattle.runs.specs.Run.{Step, Goes, Returns, Faults, MeetsUnset, run_of}
+use Rattle.runs.specs.Stepping.{StepsAs}
+use Rattle.runs.specs.declared.ends.RunEnd.TheVariants.{Running, Unset}
+use Rattle.runs.specs.declared.ends.StepEnd.TheVariants as ends
+use Rattle.runs.proofs.Runs.{one_more, stays_over}
 
 step-unset : {S : Type 0} (p : Step S) (t u : S) → StepsAs p t ends.Unset u → (p ≡ MeetsUnset) × (u ≡ t)
 step-unset (Goes next) t u h = absurd (let d : ends.Unset ≡ ends.Next = h.0 in cc)

@@ -1,0 +1,4 @@
+pub mod Paths
+pub mod Returning
+pub mod RunEnds
+pub mod Runs
