@@ -81,3 +81,61 @@ module _ {S : Type 0} (place : S → ℕ) (f g : S → Step S) (p : Product) (re
       (right_within p.edges i e is)
       (record { within = lowers.target; inside = λ one. absurd (let no : false ≡ true = sym exits ∙ ap (λ (x : ℕ). x == 1) one in cc); is_related = both.into })
       (λ none. subst (λ (q : ℕ). left_rank p.nodes e.to < left_rank p.nodes q) from (lowers.left (empty e.left none)))
+
+  -- an edge on which both runs fault
+  fault-left : (same : S → S → Type 0) → (node i : ℕ) (e : PEdge) (a b : S) → slice_get p.edges i ≡ Some e → BothFault place f g p e a b
+      → Move f g same (AreLinkedAt p related) (left_rank p.nodes) (longest_path p.edges) node a b
+  fault-left same node i e a b is both =
+      let left = way-fell place f e.left (left_next p e.to) a both.left in
+      let right = way-fell place g e.right (right_next p e.to) b both.right in
+      let long = right_within p.edges i e is in
+      Fall left.number right.number left.number right.number left.at right.at left.run right.run (omega (arith, right.within))
+
+  -- each two linked states have a move of the left run, which the right run answers
+  pub left-move : (same : S → S → Type 0) → ((x y : S) → related 1 x y → same x y) → EdgesLead place f g p related → (node : ℕ) (a b : S)
+      → AreLinkedAt p related node a b → Move f g same (AreLinkedAt p related) (left_rank p.nodes) (longest_path p.edges) node a b
+  left-move same home leads node a b linked =
+      let on : LeadsOn place f g p related node a b = leads node linked.within linked.inside a b linked.is_related in
+      elim on.goes
+      [ inl both ↦ follow-left same home node on.number on.edge a b on.is_edge on.from both (on.edge.to == 1) refl
+      | inr both ↦ fault-left same node on.number on.edge a b on.is_edge both ]
+
+  -- the same of the right run, which the left run answers
+  follow-right : (same : S → S → Type 0) → ((x y : S) → related 1 x y → same x y) → (node i : ℕ) (e : PEdge) (a b : S)
+      → slice_get p.edges i ≡ Some e → e.from ≡ node → BothFollow place f g p related e a b → (exit : Bool) → (e.to == 1) ≡ exit
+      → Move g f (λ y x. same x y) (λ q y x. AreLinkedAt p related q x y) (right_rank p.nodes) (longest_path p.edges) node b a
+  follow-right same home node i e a b is from both true exits =
+      let to : e.to ≡ 1 = eqb-true e.to 1 exits in
+      let left : way place f e.left (left_next p e.to) a ≡ Back both.left_end = both.left ∙ ap (λ (x : Bool). if x then Back both.left_end else Through both.left_end) exits in
+      let right : way place g e.right (right_next p e.to) b ≡ Back both.right_end = both.right ∙ ap (λ (x : Bool). if x then Back both.right_end else Through both.right_end) exits in
+      Home (length e.right) (length e.left) (length e.right) (length e.left) both.right_end both.left_end
+      (way-back place g e.right (right_next p e.to) b both.right_end right)
+      (way-back place f e.left (left_next p e.to) a both.left_end left)
+      (left_within p.edges i e is)
+      (home both.left_end both.right_end (subst (λ (q : ℕ). related q both.left_end both.right_end) to both.into))
+  follow-right same home node i e a b is from both false exits =
+      let left : way place f e.left (left_next p e.to) a ≡ Through both.left_end = both.left ∙ ap (λ (x : Bool). if x then Back both.left_end else Through both.left_end) exits in
+      let right : way place g e.right (right_next p e.to) b ≡ Through both.right_end = both.right ∙ ap (λ (x : Bool). if x then Back both.right_end else Through both.right_end) exits in
+      let lowers : Lowers p.nodes e = all_at (Lowers p.nodes) p.edges i e falls.lowers is in
+      Along (length e.right) (length e.left) e.to both.right_end both.left_end
+      (way-through place g e.right (right_next p e.to) b both.right_end right)
+      (way-through place f e.left (left_next p e.to) a both.left_end left)
+      (left_within p.edges i e is)
+      (record { within = lowers.target; inside = λ one. absurd (let no : false ≡ true = sym exits ∙ ap (λ (x : ℕ). x == 1) one in cc); is_related = both.into })
+      (λ none. subst (λ (q : ℕ). right_rank p.nodes e.to < right_rank p.nodes q) from (lowers.right (empty e.right none)))
+
+  fault-right : (same : S → S → Type 0) → (node i : ℕ) (e : PEdge) (a b : S) → slice_get p.edges i ≡ Some e → BothFault place f g p e a b
+      → Move g f (λ y x. same x y) (λ q y x. AreLinkedAt p related q x y) (right_rank p.nodes) (longest_path p.edges) node b a
+  fault-right same node i e a b is both =
+      let left = way-fell place f e.left (left_next p e.to) a both.left in
+      let right = way-fell place g e.right (right_next p e.to) b both.right in
+      let long = left_within p.edges i e is in
+      Fall right.number left.number right.number left.number right.at left.at right.run left.run (omega (arith, left.within))
+
+  pub right-move : (same : S → S → Type 0) → ((x y : S) → related 1 x y → same x y) → EdgesLead place f g p related → (node : ℕ) (a b : S)
+      → AreLinkedAt p related node a b → Move g f (λ y x. same x y) (λ q y x. AreLinkedAt p related q x y) (right_rank p.nodes) (longest_path p.edges) node b a
+  right-move same home leads node a b linked =
+      let on : LeadsOn place f g p related node a b = leads node linked.within linked.inside a b linked.is_related in
+      elim on.goes
+      [ inl both ↦ follow-right same home node on.number on.edge a b on.is_edge on.from both (on.edge.to == 1) refl
+      | inr both ↦ fault-right same node on.number on.edge a b on.is_edge both ]
