@@ -1,3 +1,6 @@
 pub mod Answering
+pub mod Composing
+pub mod Cycling
+pub mod ExampleRuns
 pub mod Moving
 pub mod Simulating

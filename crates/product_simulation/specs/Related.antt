@@ -2,7 +2,10 @@
 use Rattle.std.specs.Prelude.{◌≡◌, ℕ, zero, suc, ◌^◌, ◌<◌, Bool, true, List, slice_get, Option, Some}
 use Rattle.align_base.specs.declared.output.Output.{Output}
 use Rattle.machine.specs.Difference.{SameEnd, is_in_scratch}
+use Rattle.insn_table.specs.declared.insn.Function.{Function}
 use Rattle.machine.specs.Machine.{IsStart, IsState, Machine}
+use Rattle.machine.specs.Step.{step_of}
+use Rattle.runs.specs.Run.{Step}
 use Rattle.products.specs.declared.product.PNode.{PNode}
 use Rattle.products.specs.declared.product.Product.{Product}
 use Rattle.product_simulation.specs.Leads.{left_place, right_place}
@@ -44,6 +47,10 @@ pub record StandAt (node : Option PNode) (scratch : Scratch) (test : Machine →
 pub record ReturnedAlike (live : List Output) (scratch : Scratch) (a b : Machine) : Type 0 where
   pub alike : EnteredAlike a b
   pub same : SameEndAt live scratch a b
+
+-- the step of a function
+abbrev pub step_at : Function → Machine → Step Machine
+step_at f = step_of f.insns f.pool
 
 -- Two states stand in the relation of a node, where a test for each node says what else holds of them: at the entry they are
 -- one start state, and at the exit they have returned with the same end.

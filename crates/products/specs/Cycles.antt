@@ -1,17 +1,16 @@
 -- Cycles of a product, and that they advance on both sides.
-use Rattle.std.specs.Prelude.{◌≡◌, ℕ, Contains, List, [], ◌∷◌}
-use Rattle.std.specs.List.{AllByRecursion}
+use Rattle.std.specs.Prelude.{◌≡◌, ℕ, All, Contains, List, [], ◌∷◌}
 use Rattle.products.specs.declared.product.PEdge.{PEdge}
 use Rattle.products.specs.declared.product.Product.{Product}
 
--- these edges lead from node to node, one after another
-abbrev pub Leads : List PEdge → ℕ → List PEdge → ℕ → Type 0
-Leads edges node [] last = node ≡ last
-Leads edges node (e ∷ es) last = Contains edges e × (e.from ≡ node) × Leads edges e.to es last
+-- the walk follows edges of the list, one after another, from a node to a last one
+abbrev pub IsWalk : List PEdge → ℕ → List PEdge → ℕ → Type 0
+IsWalk edges node [] last = node ≡ last
+IsWalk edges node (e ∷ walk) last = Contains edges e × (e.from ≡ node) × IsWalk edges e.to walk last
 
 -- No cycle of the product has only empty left paths, nor only empty right ones.
 pub record CyclesAdvance (p : Product) : Type 0 where
-  pub left : (node : ℕ) (e : PEdge) (es : List PEdge) → Leads p.edges node (e ∷ es) node
-      → AllByRecursion (λ f. f.left ≡ []) (e ∷ es) → ⊥
-  pub right : (node : ℕ) (e : PEdge) (es : List PEdge) → Leads p.edges node (e ∷ es) node
-      → AllByRecursion (λ f. f.right ≡ []) (e ∷ es) → ⊥
+  pub left : (node : ℕ) (e : PEdge) (walk : List PEdge) → IsWalk p.edges node (e ∷ walk) node
+      → All (λ f. f.left ≡ []) (e ∷ walk) → ⊥
+  pub right : (node : ℕ) (e : PEdge) (walk : List PEdge) → IsWalk p.edges node (e ∷ walk) node
+      → All (λ f. f.right ≡ []) (e ∷ walk) → ⊥
