@@ -9,7 +9,7 @@ use Rattle.runs.specs.declared.ends.RunEnd.TheVariants.{Returned, Running}
 use Rattle.products.specs.declared.product.PEdge.{PEdge}
 use Rattle.products.specs.declared.product.PNode.{PNode}
 use Rattle.products.specs.Ranks.{HasLowRanks, Lowers, RanksFall, bound_of, longest_path}
-use Rattle.product_simulation.specs.Examples.{AnyEnd, IsFirst, StandingRelated, StandsAt, WaitingRelated, circle, edge_of, endless, into_circle, node_at, quick, slow, standing, waiting}
+use Rattle.product_simulation.specs.Examples.{AnyEnd, IsAtEntry, StandingRelated, StandsAt, WaitingRelated, circle, edge_of, endless, into_circle, node_at, quick, slow, standing, waiting}
 use Rattle.product_simulation.specs.Leads.{EdgesLead, LeadsOn}
 
 low_node : (n : ℕ) (left right rank : ℕ) → rank < n → HasLowRanks n (node_at left right rank)
@@ -60,7 +60,7 @@ pub waiting_leads : EdgesLead (λ s. s) quick slow waiting WaitingRelated
 waiting_leads node within inside a b h = waiting-leads node within inside a b h
 
 -- within the longest path's length the slow function has not returned when the quick one has
-pub longest_is_no_bound : AreEquivalent IsFirst AnyEnd (longest_path waiting.edges) quick slow → ⊥
+pub longest_is_no_bound : AreEquivalent IsAtEntry AnyEnd (longest_path waiting.edges) quick slow → ⊥
 longest_is_no_bound h =
     let late = (h.left 0 refl).returned 1 1 refl in
     let on : Running ≡ Returned late.0 = late.1 in
@@ -103,7 +103,7 @@ endless-goes zero = refl
 endless-goes (suc n) = ap (stepped endless (suc n)) (endless-goes n)
 
 -- so it is equivalent to the quick one within no bound
-pub endless_is_other : (k : ℕ) → AreEquivalent IsFirst AnyEnd k quick endless → ⊥
+pub endless_is_other : (k : ℕ) → AreEquivalent IsAtEntry AnyEnd k quick endless → ⊥
 endless_is_other k h =
     let late = (h.left 0 refl).returned 1 1 refl in
     let on : Running ≡ Returned late.0 = sym (ap (λ (r : Run ℕ). r.1) (endless-goes (k * (1 + 1)))) ∙ late.1 in

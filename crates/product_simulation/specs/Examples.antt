@@ -43,8 +43,8 @@ pub record StandsAt (left right a b : ℕ) : Type 0 where
 abbrev pub AnyEnd : ℕ → ℕ → Type 0
 AnyEnd a b = Unit {0}
 
-abbrev pub IsFirst : ℕ → Type 0
-IsFirst s = s ≡ 0
+abbrev pub IsAtEntry : ℕ → Type 0
+IsAtEntry s = s ≡ 0
 
 abbrev pub WaitingRelated : ℕ → ℕ → ℕ → Type 0
 WaitingRelated zero a b = StandsAt 0 0 a b

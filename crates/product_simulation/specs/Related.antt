@@ -8,7 +8,8 @@ use Rattle.machine.specs.Step.{step_of}
 use Rattle.runs.specs.Run.{Step}
 use Rattle.products.specs.declared.product.PNode.{PNode}
 use Rattle.products.specs.declared.product.Product.{Product}
-use Rattle.product_simulation.specs.Leads.{left_place, right_place}
+use Rattle.runs.specs.Equivalent.{AreEquivalent}
+use Rattle.product_simulation.specs.Leads.{EdgesLead, left_place, right_place}
 
 -- the scratch lines, each its base and its length, by the entry registers
 abbrev pub Scratch : Type 0
@@ -58,3 +59,12 @@ abbrev pub related : Product → List Output → Scratch → (ℕ → Machine �
 related p live scratch holds zero a b = IsStartWhere (λ s. holds 0 s s) a × (a ≡ b)
 related p live scratch holds (suc zero) a b = ReturnedAlike live scratch a b
 related p live scratch holds (suc (suc k)) a b = StandAt (slice_get p.nodes (suc (suc k))) scratch (holds (suc (suc k))) a b
+
+-- Each two related states of two functions have a way on.
+abbrev pub ProductLeads : (left right : Function) → Product → List Output → Scratch → (ℕ → Machine → Machine → Bool) → Type 0
+ProductLeads left right p live scratch holds =
+    EdgesLead (λ s. s.place) (step_at left) (step_at right) p (related p live scratch holds)
+
+-- Two functions are equivalent within k, from each start state of which the test holds.
+abbrev pub EquivalentFunctions : (Machine → Bool) → List Output → Scratch → (k : ℕ) → (f g : Function) → Type 0
+EquivalentFunctions test live scratch k f g = AreEquivalent (IsStartWhere test) (SameEndAt live scratch) k (step_at f) (step_at g)
