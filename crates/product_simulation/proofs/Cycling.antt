@@ -4,7 +4,7 @@ use Rattle.std.proofs.lemmas.List.Elements.{All-contains, All-tail}
 use Rattle.products.specs.declared.product.PEdge.{PEdge}
 use Rattle.products.specs.declared.product.Product.{Product}
 use Rattle.products.specs.Cycles.{CyclesAdvance, IsWalk}
-use Rattle.products.specs.Ranks.{Lowers, RanksFall, left_rank, right_rank}
+use Rattle.products.specs.Ranks.{LowersRanks, RanksFall, left_rank, right_rank}
 
 module _ (edges : List PEdge) (path : PEdge → List ℕ) (rank : ℕ → ℕ)
     (falls : (e : PEdge) → Contains edges e → path e ≡ [] → rank e.to < rank e.from) where
@@ -29,6 +29,6 @@ module _ (edges : List PEdge) (path : PEdge → List ℕ) (rank : ℕ → ℕ)
 
 pub cycles_advance : (p : Product) → RanksFall p → CyclesAdvance p
 cycles_advance p falls = record {
-  left = cycle-advances p.edges (λ f. f.left) (left_rank p.nodes) (λ e is. (All-contains (Lowers p.nodes) p.edges e falls.lowers is).left);
-  right = cycle-advances p.edges (λ f. f.right) (right_rank p.nodes) (λ e is. (All-contains (Lowers p.nodes) p.edges e falls.lowers is).right);
+  left = cycle-advances p.edges (λ f. f.left) (left_rank p.nodes) (λ e is. (All-contains (LowersRanks p.nodes) p.edges e falls.lowers is).left);
+  right = cycle-advances p.edges (λ f. f.right) (right_rank p.nodes) (λ e is. (All-contains (LowersRanks p.nodes) p.edges e falls.lowers is).right);
 }

@@ -8,7 +8,7 @@ use Rattle.machine.specs.Frame.{SameFrame}
 use Rattle.machine.specs.Machine.{IsInStack, Machine, offset_from}
 use Rattle.machine.proofs.Frames.{run_frame}
 use Rattle.runs.specs.Run.{run_of}
-use Rattle.product_simulation.specs.Related.{SameEndAt, Scratch, step_at}
+use Rattle.product_simulation.specs.Related.{SameEndAt, Scratch, function_step}
 
 agree-trans : (x y z : Machine) (output : Output) → Agree x y output → Agree y z output → Agree x z output
 agree-trans x y z (Reg n w) h k = h ∙ k
@@ -37,11 +37,11 @@ same_end-trans live scratch x y z entry stack h k = record {
 
 -- The ends of three functions from one start state are the same in turn.
 pub ends_join : (live : List Output) (scratch : Scratch) (s : Machine) (f g h : Function) (n m o : ℕ)
-    → SameEndAt live scratch (run_of (step_at f) s n).0 (run_of (step_at g) s m).0
-    → SameEndAt live scratch (run_of (step_at g) s m).0 (run_of (step_at h) s o).0
-    → SameEndAt live scratch (run_of (step_at f) s n).0 (run_of (step_at h) s o).0
+    → SameEndAt live scratch (run_of (function_step f) s n).0 (run_of (function_step g) s m).0
+    → SameEndAt live scratch (run_of (function_step g) s m).0 (run_of (function_step h) s o).0
+    → SameEndAt live scratch (run_of (function_step f) s n).0 (run_of (function_step h) s o).0
 ends_join live scratch s f g h n m o =
-    let left : SameFrame s (run_of (step_at f) s n).0 = run_frame f.insns f.pool s n in
-    let right : SameFrame s (run_of (step_at g) s m).0 = run_frame g.insns g.pool s m in
-    same_end-trans live scratch (run_of (step_at f) s n).0 (run_of (step_at g) s m).0 (run_of (step_at h) s o).0
+    let left : SameFrame s (run_of (function_step f) s n).0 = run_frame f.insns f.pool s n in
+    let right : SameFrame s (run_of (function_step g) s m).0 = run_frame g.insns g.pool s m in
+    same_end-trans live scratch (run_of (function_step f) s n).0 (run_of (function_step g) s m).0 (run_of (function_step h) s o).0
     (right.entry ∙ sym left.entry) (right.stack ∙ sym left.stack)

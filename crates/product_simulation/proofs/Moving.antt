@@ -1,5 +1,6 @@
 -- From a product's edges to the moves of two runs, on either side.
 use Rattle.std.proofs.Common.{◌≡◌, ◌≢◌, ℕ, zero, suc, ◌+◌, ◌*◌, ◌==◌, ◌<◌, ◌≤◌, ◌⊎◌, inl, inr, All, Bool, true, false, List, [], ◌∷◌, length, max, Option, Some, None, slice_get, refl, sym, ◌∙◌, ap, subst, eqb-true, if◌then◌else◌, arith}
+use Rattle.std.specs.Option.{option_map_or}
 use Rattle.std.proofs.lemmas.Option.{get_or_from_slice_get, slice_get_within}
 use Rattle.std.proofs.lemmas.List.Elements.{All-get_or}
 use Rattle.runs.specs.Run.{Run, Step, run_of}
@@ -10,7 +11,7 @@ use Rattle.runs.proofs.Runs.{faulted_stays}
 use Rattle.products.specs.declared.product.PEdge.{PEdge}
 use Rattle.products.specs.declared.product.PNode.{PNode}
 use Rattle.products.specs.declared.product.Product.{Product}
-use Rattle.products.specs.Ranks.{HasLowRanks, Lowers, RanksFall, left_rank, longest_path, rank_left_of, rank_right_of, right_rank}
+use Rattle.products.specs.Ranks.{HasLowRanks, LowersRanks, RanksFall, left_rank, longest_path, right_rank}
 use Rattle.product_simulation.specs.Leads.{BothFault, BothFollow, EdgesLead, LeadsOn, arrival, left_next, right_next}
 use Rattle.product_simulation.proofs.Answering.{Move, Along, Home, Fall}
 
@@ -36,11 +37,13 @@ empty : {X : Type 0} (xs : List X) → length xs ≡ 0 → xs ≡ []
 empty [] h = refl
 empty (x ∷ xs) h = absurd (omega arith)
 
-low_left : (nodes : List PNode) (n : ℕ) → 0 < n → All (HasLowRanks n) nodes → (o : Option PNode) (q : ℕ) → slice_get nodes q ≡ o → rank_left_of o < n
+low_left : (nodes : List PNode) (n : ℕ) → 0 < n → All (HasLowRanks n) nodes → (o : Option PNode) (q : ℕ) → slice_get nodes q ≡ o
+    → option_map_or (λ node. node.rank_left) o 0 < n
 low_left nodes n some low None q is = some
 low_left nodes n some low (Some node) q is = (all_at (HasLowRanks n) nodes q node low is).left
 
-low_right : (nodes : List PNode) (n : ℕ) → 0 < n → All (HasLowRanks n) nodes → (o : Option PNode) (q : ℕ) → slice_get nodes q ≡ o → rank_right_of o < n
+low_right : (nodes : List PNode) (n : ℕ) → 0 < n → All (HasLowRanks n) nodes → (o : Option PNode) (q : ℕ) → slice_get nodes q ≡ o
+    → option_map_or (λ node. node.rank_right) o 0 < n
 low_right nodes n some low None q is = some
 low_right nodes n some low (Some node) q is = (all_at (HasLowRanks n) nodes q node low is).right
 
@@ -74,7 +77,7 @@ module _ {S : Type 0} (place : S → ℕ) (f g : S → Step S) (p : Product) (re
   follow-left same home node i e a b is from both false exits =
       let left : way place f e.left (left_next p e.to) a ≡ Through both.left_end = both.left ∙ ap (λ (x : Bool). if x then Back both.left_end else Through both.left_end) exits in
       let right : way place g e.right (right_next p e.to) b ≡ Through both.right_end = both.right ∙ ap (λ (x : Bool). if x then Back both.right_end else Through both.right_end) exits in
-      let lowers : Lowers p.nodes e = all_at (Lowers p.nodes) p.edges i e falls.lowers is in
+      let lowers : LowersRanks p.nodes e = all_at (LowersRanks p.nodes) p.edges i e falls.lowers is in
       Along (length e.left) (length e.right) e.to both.left_end both.right_end
       (way-through place f e.left (left_next p e.to) a both.left_end left)
       (way-through place g e.right (right_next p e.to) b both.right_end right)
@@ -116,7 +119,7 @@ module _ {S : Type 0} (place : S → ℕ) (f g : S → Step S) (p : Product) (re
   follow-right same home node i e a b is from both false exits =
       let left : way place f e.left (left_next p e.to) a ≡ Through both.left_end = both.left ∙ ap (λ (x : Bool). if x then Back both.left_end else Through both.left_end) exits in
       let right : way place g e.right (right_next p e.to) b ≡ Through both.right_end = both.right ∙ ap (λ (x : Bool). if x then Back both.right_end else Through both.right_end) exits in
-      let lowers : Lowers p.nodes e = all_at (Lowers p.nodes) p.edges i e falls.lowers is in
+      let lowers : LowersRanks p.nodes e = all_at (LowersRanks p.nodes) p.edges i e falls.lowers is in
       Along (length e.right) (length e.left) e.to both.right_end both.left_end
       (way-through place g e.right (right_next p e.to) b both.right_end right)
       (way-through place f e.left (left_next p e.to) a both.left_end left)

@@ -7,18 +7,18 @@ use Rattle.products.specs.declared.product.Product.{Product}
 use Rattle.product_simulation.specs.Leads.{EdgesLead}
 
 -- returns by its first step
-abbrev pub quick : ℕ → Step ℕ
-quick s = Returns
+abbrev pub quick_step : ℕ → Step ℕ
+quick_step s = Returns
 
 -- goes from place 0 to place 2, and returns there by its third step
-abbrev pub slow : ℕ → Step ℕ
-slow zero = Goes 1
-slow (suc zero) = Goes 2
-slow (suc (suc s)) = Returns
+abbrev pub slow_step : ℕ → Step ℕ
+slow_step zero = Goes 1
+slow_step (suc zero) = Goes 2
+slow_step (suc (suc s)) = Returns
 
 -- stays where it stands, and never ends
-abbrev pub endless : ℕ → Step ℕ
-endless s = Goes s
+abbrev pub endless_step : ℕ → Step ℕ
+endless_step s = Goes s
 
 -- a node with these places and this left rank
 abbrev pub node_at : (left right rank : ℕ) → PNode
@@ -28,8 +28,8 @@ abbrev pub edge_of : (from to : ℕ) → (left right : List ℕ) → PEdge
 edge_of from to left right = record { from = from; to = to; left = left; right = right }
 
 -- The right function goes on along three edges, the left one along the last alone.
-abbrev pub waiting : Product
-waiting = record {
+abbrev pub waiting_product : Product
+waiting_product = record {
   nodes = node_at 0 0 2 ∷ node_at 0 0 0 ∷ node_at 0 1 1 ∷ node_at 0 2 0 ∷ [];
   edges = edge_of 0 2 [] (0 ∷ []) ∷ edge_of 2 3 [] (1 ∷ []) ∷ edge_of 3 1 (0 ∷ []) (2 ∷ []) ∷ [];
 }
@@ -54,14 +54,14 @@ WaitingRelated (suc (suc (suc zero))) a b = StandsAt 0 2 a b
 WaitingRelated (suc (suc (suc (suc k)))) a b = ⊥
 
 -- Along its last edge, whose rank does not fall, the right function goes on for ever and the left one does not.
-abbrev pub standing : List PEdge → Product
-standing edges = record { nodes = node_at 0 0 1 ∷ node_at 0 0 0 ∷ node_at 0 0 0 ∷ []; edges = edges }
+abbrev pub standing_product : List PEdge → Product
+standing_product edges = record { nodes = node_at 0 0 1 ∷ node_at 0 0 0 ∷ node_at 0 0 0 ∷ []; edges = edges }
 
-abbrev pub into_circle : PEdge
-into_circle = edge_of 0 2 [] (0 ∷ [])
+abbrev pub entry_edge : PEdge
+entry_edge = edge_of 0 2 [] (0 ∷ [])
 
-abbrev pub circle : PEdge
-circle = edge_of 2 2 [] (0 ∷ [])
+abbrev pub circle_edge : PEdge
+circle_edge = edge_of 2 2 [] (0 ∷ [])
 
 abbrev pub StandingRelated : ℕ → ℕ → ℕ → Type 0
 StandingRelated zero a b = StandsAt 0 0 a b

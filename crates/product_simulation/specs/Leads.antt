@@ -1,27 +1,27 @@
 -- What an edge of a product says of two runs, over states of any kind: they go on along its paths into the relation of the
 -- node that it leads to, or both fault within them. Node 1 is the exit, where both have returned.
-use Rattle.std.specs.Prelude.{◌≡◌, ◌≢◌, ◌⊎◌, ℕ, ◌==◌, ◌<◌, List, length, Option, None, Some, slice_get, if◌then◌else◌}
+use Rattle.std.specs.Prelude.{◌≡◌, ◌≢◌, ◌⊎◌, ℕ, ◌==◌, ◌<◌, List, length, Option, None, Some, option_map, slice_get, if◌then◌else◌}
 use Rattle.runs.specs.Run.{Step}
 use Rattle.runs.specs.Path.{Way, Through, Back, Fell, way}
 use Rattle.products.specs.declared.product.PEdge.{PEdge}
 use Rattle.products.specs.declared.product.PNode.{PNode}
 use Rattle.products.specs.declared.product.Product.{Product}
 
-abbrev pub left_place : Option PNode → Option ℕ
-left_place None = None
-left_place (Some node) = Some node.left
+-- the left place of the node of this number
+abbrev pub left_place : List PNode → ℕ → Option ℕ
+left_place nodes number = option_map (λ node. node.left) (slice_get nodes number)
 
-abbrev pub right_place : Option PNode → Option ℕ
-right_place None = None
-right_place (Some node) = Some node.right
+-- the right place of the node of this number
+abbrev pub right_place : List PNode → ℕ → Option ℕ
+right_place nodes number = option_map (λ node. node.right) (slice_get nodes number)
 
--- the left place behind a path that leads to the node: none behind one that leads to the exit
+-- the left place that follows a path which leads to the node: none follows one that leads to the exit
 abbrev pub left_next : Product → ℕ → Option ℕ
-left_next p node = if node == 1 then None else left_place (slice_get p.nodes node)
+left_next p node = if node == 1 then None else left_place p.nodes node
 
--- the right place behind a path that leads to the node
+-- the right place that follows a path which leads to the node
 abbrev pub right_next : Product → ℕ → Option ℕ
-right_next p node = if node == 1 then None else right_place (slice_get p.nodes node)
+right_next p node = if node == 1 then None else right_place p.nodes node
 
 -- how a run comes to the node: it has returned at the exit, and goes on at any other
 abbrev pub arrival : {S : Type 0} → ℕ → S → Way S

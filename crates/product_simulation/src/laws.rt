@@ -6,13 +6,13 @@ ghost use Rattle.runs.specs.Path.{Fell, way};
 ghost use Rattle.runs.specs.Run.{Step};
 ghost use Rattle.products.specs.declared.product.PEdge.{PEdge};
 ghost use Rattle.products.specs.declared.product.Product.{Product};
-ghost use Rattle.products.specs.Bounds.{composed, joined};
+ghost use Rattle.products.specs.Bounds.{composed_bound, joined_bound};
 ghost use Rattle.products.specs.Cycles.{CyclesAdvance};
 ghost use Rattle.products.specs.Ranks.{RanksFall, bound_of};
 ghost use Rattle.product_simulation.specs.Chains.{AreLinked, Link, bounds_of, last_of};
 ghost use Rattle.product_simulation.specs.Leads.{IsWayOn, left_next, right_next};
 ghost use Rattle.product_simulation.specs.Pace.{KeepsPace};
-ghost use Rattle.product_simulation.specs.Related.{EquivalentFunctions, IsStartWhere, ProductLeads, SameEndAt, Scratch, step_at};
+ghost use Rattle.product_simulation.specs.Related.{EquivalentFunctions, IsStartWhere, ProductLeads, SameEndAt, Scratch, function_step};
 
 use align_base::Output;
 use insn_table::Function;
@@ -30,8 +30,8 @@ pub fn simulation_law(left: &Function, right: &Function, live: &[Output], produc
     ensures paced { (scratch : Scratch) (holds : ℕ → Machine → Machine → Bool)
         → ProductLeads left.now right.now product.now live.now scratch holds
         → (s : Machine) → IsStartWhere (λ t. holds 0 t t) s
-        → KeepsPace (bound_of product.now) (step_at left.now) (step_at right.now) s
-            × KeepsPace (bound_of product.now) (step_at right.now) (step_at left.now) s }
+        → KeepsPace (bound_of product.now) (function_step left.now) (function_step right.now) s
+            × KeepsPace (bound_of product.now) (function_step right.now) (function_step left.now) s }
 {}
 
 /// The law of cycles: where ranks fall, no cycle of the product has only empty left paths, nor only
@@ -46,10 +46,10 @@ pub fn cycle_law(product: &Product)
 pub fn chain_law(live: &[Output])
     ensures two { (scratch : Scratch) (test : Machine → Bool) (k l : ℕ) (f g h : Function)
         → EquivalentFunctions test live.now scratch k f g → EquivalentFunctions test live.now scratch l g h
-        → EquivalentFunctions test live.now scratch (joined k l) f h }
+        → EquivalentFunctions test live.now scratch (joined_bound k l) f h }
     ensures chain { (scratch : Scratch) (test : Machine → Bool) (f : Function) (links : List (Link Function)) → 0 < length links
-        → AreLinked (IsStartWhere test) (SameEndAt live.now scratch) step_at f links
-        → EquivalentFunctions test live.now scratch (composed (bounds_of links)) f (last_of f links) }
+        → AreLinked (IsStartWhere test) (SameEndAt live.now scratch) function_step f links
+        → EquivalentFunctions test live.now scratch (composed_bound (bounds_of links)) f (last_of f links) }
 {}
 
 /// The law of what is no way on, over states of any type: an edge into the exit with a path that is

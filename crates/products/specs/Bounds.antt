@@ -2,9 +2,9 @@
 use Rattle.std.specs.Prelude.{ℕ, ◌+◌, ◌*◌, List, fold, max}
 
 -- the bound of two links in turn
-abbrev pub joined : ℕ → ℕ → ℕ
-joined k l = k * l + max k l
+abbrev pub joined_bound : ℕ → ℕ → ℕ
+joined_bound k l = k * l + max k l
 
 -- the bound of a chain, its links joined from the left
-abbrev pub composed : List ℕ → ℕ
-composed ks = fold joined 0 ks
+abbrev pub composed_bound : List ℕ → ℕ
+composed_bound ks = fold joined_bound 0 ks

@@ -1,6 +1,6 @@
 //! The bound of a chain of functions, each equivalent to the next.
 ghost use Rattle.std.specs.Prelude.{◌≡◌, ◌^◌, ◌<◌, ◌≤◌, All, length};
-ghost use Rattle.products.specs.Bounds.{composed, joined};
+ghost use Rattle.products.specs.Bounds.{composed_bound, joined_bound};
 
 /// The bound of a chain, from the bounds of its links in order: one to seven, each at most 32,768.
 ///
@@ -10,7 +10,7 @@ pub fn compose(ks: &[u64]) -> u128
     requires some { 1 ≤ length ks.now }
     requires few { length ks.now ≤ 7 }
     requires small { All (λ k. k ≤ 32768) ks.now }
-    ensures composed { result ≡ composed ks.now }
+    ensures composed_bound { result ≡ composed_bound ks.now }
     ensures below { result < 2 ^ 106 }
 {
     let mut bound = 0;
@@ -22,8 +22,8 @@ pub fn compose(ks: &[u64]) -> u128
 
 /// The bound of two links with these bounds.
 fn join(k: u128, l: u128) -> u128
-    requires { joined k l < 2 ^ 128 }
-    ensures { result ≡ joined k l }
+    requires { joined_bound k l < 2 ^ 128 }
+    ensures { result ≡ joined_bound k l }
 {
     k * l + k.max(l)
 }

@@ -1,6 +1,6 @@
 //! The longest path of a product, its bound, and whether its ranks fall.
 ghost use Rattle.std.specs.Prelude.{◌≡◌, ◌↔◌, ◌^◌, ◌<◌, List, length, IsTrue};
-ghost use Rattle.products.specs.Ranks.{HasLowRanks, Lowers, RanksFall, bound_of, left_rank, longest_path, right_rank};
+ghost use Rattle.products.specs.Ranks.{HasLowRanks, LowersRanks, RanksFall, bound_of, left_rank, longest_path, right_rank};
 
 use crate::product::{PEdge, PNode, Product};
 
@@ -47,15 +47,15 @@ fn has_low_ranks(node: &PNode, limit: usize) -> bool
 
 /// Whether the edge leads to a node, and lowers the rank of each side on which its path is empty.
 fn lowers(edge: &PEdge, nodes: &[PNode]) -> bool
-    ensures { IsTrue result ↔ Lowers nodes.now edge.now }
+    ensures { IsTrue result ↔ LowersRanks nodes.now edge.now }
 {
     (edge.to as usize) < nodes.len()
-        && (!edge.left.is_empty() || rank_left(nodes, edge.to) < rank_left(nodes, edge.from))
-        && (!edge.right.is_empty() || rank_right(nodes, edge.to) < rank_right(nodes, edge.from))
+        && (!edge.left.is_empty() || left_rank(nodes, edge.to) < left_rank(nodes, edge.from))
+        && (!edge.right.is_empty() || right_rank(nodes, edge.to) < right_rank(nodes, edge.from))
 }
 
 /// The left rank of the node of this number, 0 where there is none.
-fn rank_left(nodes: &[PNode], number: u32) -> u32
+fn left_rank(nodes: &[PNode], number: u32) -> u32
     ensures { result ≡ left_rank nodes.now number }
 {
     match nodes.get(number as usize) {
@@ -65,7 +65,7 @@ fn rank_left(nodes: &[PNode], number: u32) -> u32
 }
 
 /// The right rank of the node of this number, 0 where there is none.
-fn rank_right(nodes: &[PNode], number: u32) -> u32
+fn right_rank(nodes: &[PNode], number: u32) -> u32
     ensures { result ≡ right_rank nodes.now number }
 {
     match nodes.get(number as usize) {
