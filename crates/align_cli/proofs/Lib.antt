@@ -6,3 +6,4 @@ pub mod Verdicts
 pub mod Reaching
 pub mod Owing
 pub mod Ending
+pub mod PlainEnds

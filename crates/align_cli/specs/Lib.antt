@@ -4,6 +4,7 @@ pub mod Commands
 pub mod Files
 pub mod Inside
 pub mod PlainArguments
+pub mod Plainness
 pub mod Report
 pub mod Shown
 pub mod Statuses

@@ -11,6 +11,7 @@ mod answer;
 mod arguments;
 mod decide;
 mod functions;
+mod plainness;
 mod report;
 mod sums;
 mod top;

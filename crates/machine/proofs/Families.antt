@@ -109,6 +109,7 @@ pub insn_at : (insns kept : List Insn) (s t : Kept) (d : Insn) → kept ≡ insn
     → slice_get insns t.place ≡ Some (slice_index_or kept s.place d)
 insn_at insns kept s t d same_insns same lt = rw (same_insns, same) (slice_get-get_or insns t.place d lt)
 
+-- the code's step of the instruction at the state's place is the step
 pub step_taken : (insns : List Insn) (pool taken : List ℕ) (i : Insn) (s t : Machine) (end : StepEnd) → taken ≡ pool → slice_get insns s.place ≡ Some i
     → StepsAs (insn_step taken i s) s end t → StepsAs (step_of insns pool s) s end t
 step_taken insns pool taken i s t end same at steps =
