@@ -105,4 +105,4 @@ at-most_four (a ∷ b ∷ c ∷ []) few = refl
 at-most_four (a ∷ b ∷ c ∷ d ∷ []) few = refl
 at-most_four (a ∷ b ∷ c ∷ d ∷ e ∷ more) few = absurd (omega arith)
 
-pub ruleset at_most_four = (at-most_four)
+pub ruleset four_operands = (at-most_four)

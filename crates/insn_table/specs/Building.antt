@@ -56,10 +56,14 @@ insn_made (Some shape) (Some args) line = with_registers (fits_of shape args lin
 abbrev pub assembled : List ℕ → List Operand → ℕ → Result Insn BuildError
 assembled mnemonic args line = insn_made (named general_rows mnemonic) (four_of args) line
 
--- what a mnemonic and its operands make behind these instructions, on the line of that number
+-- the instruction that is made behind these, on this line, or why none is
+abbrev pub insn_behind : List Insn → List ℕ → List Operand → ℕ → Result Insn BuildError
+insn_behind before mnemonic args line =
+    if nat_lt (length before + 1) (2 ^ 32) then assembled mnemonic args line else Err TooMany
+
+-- the same on the line of its number: the first instruction is on line 1
 abbrev pub next_insn : List Insn → List ℕ → List Operand → Result Insn BuildError
-next_insn before mnemonic args =
-    if nat_lt (length before + 1) (2 ^ 32) then assembled mnemonic args (length before + 1) else Err TooMany
+next_insn before mnemonic args = insn_behind before mnemonic args (length before + 1)
 
 -- the new list has one instruction more, which is the one that was made
 pub record Appends (old new : List Insn) (made : Result Insn BuildError) : Type 0 where

@@ -18,7 +18,7 @@ pub struct Statement<'t> {
 
 impl<'t> Statement<'t> {
     /// With these operands, at most four.
-    #[tactic(auto, using(crate::proofs::Built::at_most_four))]
+    #[tactic(auto, using(crate::proofs::Built::four_operands))]
     pub fn new(mnemonic: &'t [u8], args: &[Operand]) -> Statement<'t>
         requires { length args.now ≤ 4 }
         ensures mnemonic { result.mnemonic.now ≡ mnemonic.now }

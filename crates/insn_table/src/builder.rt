@@ -4,7 +4,7 @@ ghost use Rattle.std.specs.Result.{result_err};
 ghost use Rattle.std.specs.List.{list_all};
 ghost use Rattle.insn_table.specs.Closed.{IsClosed};
 ghost use Rattle.insn_table.specs.declared.build_error.BuildError.{BuildError};
-ghost use Rattle.insn_table.specs.Building.{Appends, next_insn, function_made, fault_of, is_inside, goes_inside, is_leaving};
+ghost use Rattle.insn_table.specs.Building.{Appends, insn_behind, next_insn, function_made, fault_of, is_inside, goes_inside, is_leaving};
 
 use crate::assembling::{Statement, assemble};
 use crate::build_error::BuildError;
@@ -52,11 +52,27 @@ impl FunctionBuilder {
         ensures only { IfErr result (λ e.
             (e ≡ BuildError.OutOfMemory) ⊎ (next_insn self.old mnemonic.now args.now ≡ Err e)) }
     {
-        let line = self.kept.len() as u32;
-        if line == u32::MAX {
+        let line = (self.kept.len() as u32).saturating_add(1);
+        self.push_on_line(line, mnemonic, args)
+    }
+
+    /// The same on this line of a text.
+    pub fn push_on_line(
+        &mut self,
+        line: u32,
+        mnemonic: &[u8],
+        args: &[Operand],
+    ) -> Result<(), BuildError>
+        ensures ok { OnOk result (Appends self.old self.new (insn_behind self.old mnemonic.now args.now line)) }
+        ensures err { OnErr result (self.new ≡ self.old) }
+        ensures refused { (e : BuildError) → insn_behind self.old mnemonic.now args.now line ≡ Err e → result ≡ Err e }
+        ensures only { IfErr result (λ e.
+            (e ≡ BuildError.OutOfMemory) ⊎ (insn_behind self.old mnemonic.now args.now line ≡ Err e)) }
+    {
+        if self.kept.len() >= u32::MAX as usize {
             return Err(BuildError::TooMany);
         }
-        let insn = assemble(mnemonic, args, line + 1)?;
+        let insn = assemble(mnemonic, args, line)?;
         self.kept.push(insn)?;
         Ok(())
     }
