@@ -14,8 +14,10 @@ pub fn compose(ks: &[u64]) -> u128
     ensures below { result < 2 ^ 106 }
 {
     let mut bound = 0;
-    for k in ks {
+    let mut rest = ks;
+    while let [k, after @ ..] = rest {
         bound = join(bound, *k as u128);
+        rest = after;
     }
     bound
 }
