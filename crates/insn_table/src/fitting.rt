@@ -8,13 +8,16 @@ use crate::forms::{Class, forms_of, is_memory, takes_kind};
 use crate::insn::{Insn, Operand};
 use crate::shape::Shape;
 use align_base::Op;
+use thiserror::Error;
 
 /// Why operands make no instruction of a shape.
-#[derive(Clone, Copy, Debug, PartialEq, Eq)]
+#[derive(Clone, Copy, Debug, PartialEq, Eq, Error)]
 pub enum Misfit {
     /// No form takes these kinds of operands.
+    #[error("the instruction takes no such operands")]
     BadOperand,
     /// A form takes these kinds of operands, and an immediate or a count is out of range.
+    #[error("an immediate or a count is out of range")]
     BadNumber,
 }
 

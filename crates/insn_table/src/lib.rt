@@ -3,6 +3,9 @@
 //! Operands stand in the order of GNU AT&T text: sources first, the destination last.
 #![tactic(auto)]
 
+mod assembling;
+mod build_error;
+mod builder;
 mod bytes;
 mod fitting;
 mod forms;
@@ -14,6 +17,9 @@ mod table;
 mod tests;
 
 pub use align_base::{Cond, Flags, Op};
+pub use assembling::{Statement, assemble};
+pub use build_error::BuildError;
+pub use builder::{FunctionBuilder, assemble_function};
 pub use bytes::Bytes;
 pub use fitting::{Misfit, fits};
 pub use insn::{Function, Insn, Insns, Operand};

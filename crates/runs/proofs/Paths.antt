@@ -130,11 +130,37 @@ way-falls_at_first place allows free (p ∷ ps) next s h fails =
     (arrived-first (place s == p) (walked (free s) s ps next (way place free ps next)) h)
     fails
 
-fell-walked : {S : Type 0} (step : S → Step S) (p : Step S) (s : S) (ps : List ℕ) (next : Option ℕ) (rest : S → Way S)
-    → ((t : S) → rest t ≡ Fell → FallsWithin step t (length ps)) → step s ≡ p → walked p s ps next rest ≡ Fell
-    → FallsWithin step s (suc (length ps))
-fell-walked step (Goes t) s ps next rest more is h =
-    let there = more t h in
+-- How a way begins that is not off: its first step goes on, returns at the end of the path where no place follows, or faults.
+data Begins {S : Type 0} (step : S → Step S) (ps : List ℕ) (next : Option ℕ) (rest : S → Way S) (s : S) (v : Way S) : Type 0 where
+  Onward : (u : S) → step s ≡ Goes u → rest u ≡ v → Begins step ps next rest s v
+  Home : step s ≡ Returns → ps ≡ [] → v ≡ Back s → Begins step ps next rest s v
+  Down : step s ≡ Faults → v ≡ Fell → Begins step ps next rest s v
+
+walked-begins : {S : Type 0} (step : S → Step S) (p : Step S) (s : S) (ps : List ℕ) (next : Option ℕ) (rest : S → Way S) (v : Way S)
+    → step s ≡ p → walked p s ps next rest ≡ v → (v ≡ Off → ⊥) → Begins step ps next rest s v
+walked-begins step (Goes u) s ps next rest v is h on = Onward u is h
+walked-begins step Returns s [] None rest v is h on = Home is refl (sym h)
+walked-begins step Returns s [] (Some n) rest v is h on = absurd (on (sym h))
+walked-begins step Returns s (q ∷ ps) next rest v is h on = absurd (on (sym h))
+walked-begins step Faults s ps next rest v is h on = Down is (sym h)
+walked-begins step MeetsUnset s ps next rest v is h on = absurd (on (sym h))
+
+way-begins : {S : Type 0} (place : S → ℕ) (step : S → Step S) (p : ℕ) (ps : List ℕ) (next : Option ℕ) (s : S) (v : Way S)
+    → way place step (p ∷ ps) next s ≡ v → (v ≡ Off → ⊥) → Begins step ps next (way place step ps next) s v
+way-begins place step p ps next s v h on =
+    let first = at_first (place s == p) (walked (step s) s ps next (way place step ps next)) v h on in
+    walked-begins step (step s) s ps next (way place step ps next) v refl first.1 on
+
+-- At the end of a path, a way that is not off is through, at the next place.
+rested-through : {S : Type 0} (place : S → ℕ) (next : Option ℕ) (s : S) (v : Way S) → rested place next s ≡ v → (v ≡ Off → ⊥)
+    → (v ≡ Through s) × (Some (place s) ≡ next)
+rested-through place None s v h on = absurd (on (sym h))
+rested-through place (Some n) s v h on =
+    let first = at_first (place s == n) (Through s) v h on in (sym first.1, ap Some (eqb-true (place s) n first.0))
+
+-- a fault that comes one step later
+falls-later : {S : Type 0} (step : S → Step S) (s t : S) (n : ℕ) → step s ≡ Goes t → FallsWithin step t n → FallsWithin step s (suc n)
+falls-later step s t n is there =
     let count : 1 + there.number ≡ suc there.number = omega arith in
     record {
       at = there.at;
@@ -142,95 +168,52 @@ fell-walked step (Goes t) s ps next rest more is h =
       within = omega (arith, there.within);
       run = run-goes step s t there.number is ∙ ap (later 1) there.run ∙ (λ j. (there.at, Faulted (count j)));
     }
-fell-walked step Returns s [] None rest more is h = absurd (cc)
-fell-walked step Returns s [] (Some n) rest more is h = absurd (cc)
-fell-walked step Returns s (p ∷ ps) next rest more is h = absurd (cc)
-fell-walked step Faults s ps next rest more is h =
-    record { at = s; number = 1; within = omega arith; run = ap (ended_by s 1) is }
-fell-walked step MeetsUnset s ps next rest more is h = absurd (cc)
-
-rested-through : {S : Type 0} (place : S → ℕ) (n : ℕ) (b : Bool) (s t : S) → place s == n ≡ b → (if b then Through s else Off) ≡ Through t
-    → (s ≡ t) × (place t ≡ n)
-rested-through place n true s t is h = let same : s ≡ t = cc in (same, sym (ap place same) ∙ eqb-true (place s) n is)
-rested-through place n false s t is h = absurd (cc)
-
-no-fall : {S : Type 0} (b : Bool) (s : S) → (if b then Through s else Off) ≡ Fell → ⊥
-no-fall true s h = cc
-no-fall false s h = cc
-
-rested-no_fall : {S : Type 0} (place : S → ℕ) (next : Option ℕ) (s : S) → rested place next s ≡ Fell → ⊥
-rested-no_fall place None s h = cc
-rested-no_fall place (Some n) s h = no-fall (place s == n) s h
 
 -- A way that fell is a run that faulted by one of as many steps as the path has places.
 pub way-fell : {S : Type 0} (place : S → ℕ) (step : S → Step S) (path : List ℕ) (next : Option ℕ) (s : S)
     → way place step path next s ≡ Fell → FallsWithin step s (length path)
-way-fell place step [] next s h = absurd (rested-no_fall place next s h)
+way-fell place step [] next s h = let through = (rested-through place next s Fell h (λ e. cc)).0 in absurd (cc)
 way-fell place step (p ∷ ps) next s h =
-    let first = at_first (place s == p) (walked (step s) s ps next (way place step ps next)) Fell h (λ e. cc) in
-    fell-walked step (step s) s ps next (way place step ps next) (λ t. way-fell place step ps next t) refl first.1
-
-goes-through : {S : Type 0} (step : S → Step S) (p : Step S) (s t : S) (ps : List ℕ) (next : Option ℕ) (rest : S → Way S)
-    → ((u : S) → rest u ≡ Through t → run_of step u (length ps) ≡ (t, Running)) → step s ≡ p → walked p s ps next rest ≡ Through t
-    → run_of step s (suc (length ps)) ≡ (t, Running)
-goes-through step (Goes u) s t ps next rest more is h = run-goes step s u (length ps) is ∙ ap (later 1) (more u h)
-goes-through step Returns s t [] None rest more is h = absurd (cc)
-goes-through step Returns s t [] (Some n) rest more is h = absurd (cc)
-goes-through step Returns s t (p ∷ ps) next rest more is h = absurd (cc)
-goes-through step Faults s t ps next rest more is h = absurd (cc)
-goes-through step MeetsUnset s t ps next rest more is h = absurd (cc)
+    elim (way-begins place step p ps next s Fell h (λ e. cc)) [
+      | Onward u is more ↦ falls-later step s u (length ps) is (way-fell place step ps next u more)
+      | Home is end back ↦ absurd (cc)
+      | Down is fell ↦ record { at = s; number = 1; within = omega arith; run = ap (ended_by s 1) is }
+    ]
 
 -- A way that is through is a run that still goes on after as many steps as the path has places,
 pub way-through : {S : Type 0} (place : S → ℕ) (step : S → Step S) (path : List ℕ) (next : Option ℕ) (s t : S)
     → way place step path next s ≡ Through t → run_of step s (length path) ≡ (t, Running)
-way-through place step [] None s t h = absurd (cc)
-way-through place step [] (Some n) s t h = λ j. ((rested-through place n (place s == n) s t refl h).0 j, Running)
+way-through place step [] next s t h =
+    let through = (rested-through place next s (Through t) h (λ e. cc)).0 in let same : s ≡ t = cc in (λ j. (same j, Running))
 way-through place step (p ∷ ps) next s t h =
-    let first = at_first (place s == p) (walked (step s) s ps next (way place step ps next)) (Through t) h (λ e. cc) in
-    goes-through step (step s) s t ps next (way place step ps next) (λ u. way-through place step ps next u t) refl first.1
-
-walked-stands : {S : Type 0} (place : S → ℕ) (p : Step S) (s t : S) (ps : List ℕ) (next : Option ℕ) (rest : S → Way S)
-    → ((u : S) → rest u ≡ Through t → Some (place t) ≡ next) → walked p s ps next rest ≡ Through t → Some (place t) ≡ next
-walked-stands place (Goes u) s t ps next rest more h = more u h
-walked-stands place Returns s t [] None rest more h = absurd (cc)
-walked-stands place Returns s t [] (Some n) rest more h = absurd (cc)
-walked-stands place Returns s t (p ∷ ps) next rest more h = absurd (cc)
-walked-stands place Faults s t ps next rest more h = absurd (cc)
-walked-stands place MeetsUnset s t ps next rest more h = absurd (cc)
+    elim (way-begins place step p ps next s (Through t) h (λ e. cc)) [
+      | Onward u is more ↦ run-goes step s u (length ps) is ∙ ap (later 1) (way-through place step ps next u t more)
+      | Home is end back ↦ absurd (cc)
+      | Down is fell ↦ absurd (cc)
+    ]
 
 -- and it stands at the next place.
 pub way-stands : {S : Type 0} (place : S → ℕ) (step : S → Step S) (path : List ℕ) (next : Option ℕ) (s t : S)
     → way place step path next s ≡ Through t → Some (place t) ≡ next
-way-stands place step [] None s t h = absurd (cc)
-way-stands place step [] (Some n) s t h = λ j. Some ((rested-through place n (place s == n) s t refl h).1 j)
+way-stands place step [] next s t h =
+    let at_end = rested-through place next s (Through t) h (λ e. cc) in let same : t ≡ s = cc in ap (λ (u : _). Some (place u)) same ∙ at_end.1
 way-stands place step (p ∷ ps) next s t h =
-    let first = at_first (place s == p) (walked (step s) s ps next (way place step ps next)) (Through t) h (λ e. cc) in
-    walked-stands place (step s) s t ps next (way place step ps next) (λ u. way-stands place step ps next u t) first.1
-
-goes-back : {S : Type 0} (step : S → Step S) (p : Step S) (s t : S) (ps : List ℕ) (next : Option ℕ) (rest : S → Way S)
-    → ((u : S) → rest u ≡ Back t → run_of step u (length ps) ≡ (t, Returned (length ps))) → step s ≡ p → walked p s ps next rest ≡ Back t
-    → run_of step s (suc (length ps)) ≡ (t, Returned (suc (length ps)))
-goes-back step (Goes u) s t ps next rest more is h =
-    let count : 1 + length ps ≡ suc (length ps) = omega arith in
-    run-goes step s u (length ps) is ∙ ap (later 1) (more u h) ∙ (λ j. (t, Returned (count j)))
-goes-back step Returns s t [] None rest more is h = let same : s ≡ t = cc in ap (ended_by s 1) is ∙ (λ j. (same j, Returned 1))
-goes-back step Returns s t [] (Some n) rest more is h = absurd (cc)
-goes-back step Returns s t (p ∷ ps) next rest more is h = absurd (cc)
-goes-back step Faults s t ps next rest more is h = absurd (cc)
-goes-back step MeetsUnset s t ps next rest more is h = absurd (cc)
-
-no-return : {S : Type 0} (b : Bool) (s t : S) → (if b then Through s else Off) ≡ Back t → ⊥
-no-return true s t h = cc
-no-return false s t h = cc
-
-rested-no_return : {S : Type 0} (place : S → ℕ) (next : Option ℕ) (s t : S) → rested place next s ≡ Back t → ⊥
-rested-no_return place None s t h = cc
-rested-no_return place (Some n) s t h = no-return (place s == n) s t h
+    elim (way-begins place step p ps next s (Through t) h (λ e. cc)) [
+      | Onward u is more ↦ way-stands place step ps next u t more
+      | Home is end back ↦ absurd (cc)
+      | Down is fell ↦ absurd (cc)
+    ]
 
 -- A way that is back is a run that returned by its last step.
 pub way-back : {S : Type 0} (place : S → ℕ) (step : S → Step S) (path : List ℕ) (next : Option ℕ) (s t : S)
     → way place step path next s ≡ Back t → run_of step s (length path) ≡ (t, Returned (length path))
-way-back place step [] next s t h = absurd (rested-no_return place next s t h)
+way-back place step [] next s t h = let through = (rested-through place next s (Back t) h (λ e. cc)).0 in absurd (cc)
 way-back place step (p ∷ ps) next s t h =
-    let first = at_first (place s == p) (walked (step s) s ps next (way place step ps next)) (Back t) h (λ e. cc) in
-    goes-back step (step s) s t ps next (way place step ps next) (λ u. way-back place step ps next u t) refl first.1
+    elim (way-begins place step p ps next s (Back t) h (λ e. cc)) [
+      | Onward u is more ↦
+          let count : 1 + length ps ≡ suc (length ps) = omega arith in
+          run-goes step s u (length ps) is ∙ ap (later 1) (way-back place step ps next u t more) ∙ (λ j. (t, Returned (count j)))
+      | Home is end back ↦
+          let same : s ≡ t = cc in rw end (ap (ended_by s 1) is ∙ (λ j. (same j, Returned 1)))
+      | Down is fell ↦ absurd (cc)
+    ]

@@ -1,29 +1,33 @@
--- How the code's run goes on, and how it ends where a flag is unset.
+-- How a run goes on or ends by one step of the code.
 use Rattle.std.proofs.Common.{◌≡◌, ℕ, suc, ◌+◌, ◌<◌, refl, sym, ◌∙◌, add-one, arith}
-use Rattle.runs.specs.Run.{Step, Goes, Returns, Faults, MeetsUnset, run_of}
+use Rattle.runs.specs.Run.{Step, Goes, Returns, Faults, MeetsUnset, IsOver, run_of}
 use Rattle.runs.specs.Stepping.{StepsAs}
-use Rattle.runs.specs.declared.ends.RunEnd.TheVariants.{Running, Unset}
+use Rattle.runs.specs.declared.ends.RunEnd.{RunEnd}
+use Rattle.runs.specs.declared.ends.RunEnd.TheVariants.{Returned, Faulted, Unset, Running}
+use Rattle.runs.specs.declared.ends.StepEnd.{StepEnd}
 use Rattle.runs.specs.declared.ends.StepEnd.TheVariants as ends
 use Rattle.runs.proofs.Runs.{one_more, stays_over}
 
-step-unset : {S : Type 0} (p : Step S) (t u : S) → StepsAs p t ends.Unset u → (p ≡ MeetsUnset) × (u ≡ t)
-step-unset (Goes next) t u h = absurd (let d : ends.Unset ≡ ends.Next = h.0 in cc)
-step-unset Returns t u h = absurd (let d : ends.Unset ≡ ends.Return = h.0 in cc)
-step-unset Faults t u h = absurd (let d : ends.Unset ≡ ends.Fault = h.0 in cc)
-step-unset MeetsUnset t u h = (refl, h.1)
+-- the end of a run whose n-th step ends so
+abbrev pub end_after : StepEnd → ℕ → RunEnd
+end_after ends.Next n = Running
+end_after ends.Return n = Returned n
+end_after ends.Fault n = Faulted n
+end_after ends.Unset n = Unset n
 
-pub run-unset : {S : Type 0} (step : S → Step S) (s t u : S) (i n : ℕ) → run_of step s i ≡ (t, Running) → StepsAs (step t) t ends.Unset u → i < n
-    → run_of step s n ≡ (u, Unset (i + 1))
-run-unset step s t u i n h k lt =
-    let met = step-unset (step t) t u k in
-    rw add-one (stays_over step s t (Unset (suc i)) (suc i) n tt (omega arith) (one_more step s t i MeetsUnset h met.0) ∙ (λ j. (sym met.1 j, Unset (suc i))))
+taken : {S : Type 0} (step : S → Step S) (s t u : S) (end : StepEnd) (i : ℕ) (p : Step S) → run_of step s i ≡ (t, Running) → step t ≡ p
+    → StepsAs p t end u → run_of step s (suc i) ≡ (u, end_after end (suc i))
+taken step s t u end i (Goes next) h is k = one_more step s t i (Goes next) h is ∙ (λ j. (sym k.1 j, end_after (sym k.0 j) (suc i)))
+taken step s t u end i Returns h is k = one_more step s t i Returns h is ∙ (λ j. (sym k.1 j, end_after (sym k.0 j) (suc i)))
+taken step s t u end i Faults h is k = one_more step s t i Faults h is ∙ (λ j. (sym k.1 j, end_after (sym k.0 j) (suc i)))
+taken step s t u end i MeetsUnset h is k = one_more step s t i MeetsUnset h is ∙ (λ j. (sym k.1 j, end_after (sym k.0 j) (suc i)))
 
-step-next : {S : Type 0} (p : Step S) (t u : S) → StepsAs p t ends.Next u → p ≡ Goes u
-step-next (Goes next) t u h = λ j. Goes (sym h.1 j)
-step-next Returns t u h = absurd (let d : ends.Next ≡ ends.Return = h.0 in cc)
-step-next Faults t u h = absurd (let d : ends.Next ≡ ends.Fault = h.0 in cc)
-step-next MeetsUnset t u h = absurd (let d : ends.Next ≡ ends.Unset = h.0 in cc)
+-- A run that goes on, and one more step of the code: where it has come to.
+pub run-step : {S : Type 0} (step : S → Step S) (s t u : S) (end : StepEnd) (i : ℕ) → run_of step s i ≡ (t, Running) → StepsAs (step t) t end u
+    → run_of step s (i + 1) ≡ (u, end_after end (i + 1))
+run-step step s t u end i h k = rw add-one (taken step s t u end i (step t) h refl k)
 
-pub run-next : {S : Type 0} (step : S → Step S) (s t u : S) (i : ℕ) → run_of step s i ≡ (t, Running) → StepsAs (step t) t ends.Next u
-    → run_of step s (i + 1) ≡ (u, Running)
-run-next step s t u i h k = rw add-one (one_more step s t i (Goes u) h (step-next (step t) t u k))
+-- Where that step ends it, it has ended so after any more.
+pub run-over : {S : Type 0} (step : S → Step S) (s t u : S) (end : StepEnd) (i n : ℕ) → IsOver (end_after end (i + 1))
+    → run_of step s i ≡ (t, Running) → StepsAs (step t) t end u → i < n → run_of step s n ≡ (u, end_after end (i + 1))
+run-over step s t u end i n over h k lt = stays_over step s u (end_after end (i + 1)) (i + 1) n over (omega arith) (run-step step s t u end i h k)

@@ -1,10 +1,8 @@
 -- Runs over states of any kind: a run that is over stays, and two runs of one start have one end.
 use Rattle.std.proofs.Common.{◌≡◌, ℕ, zero, suc, ◌+◌, ◌-◌, ◌<◌, ◌≤◌, refl, sym, ◌∙◌, ap, subst, add-zero, add-suc, add-one, add_comm, arith}
 use Rattle.runs.specs.Run.{Step, Goes, Returns, Faults, MeetsUnset, IsOver, Run, end_of, ended_by, later, run_of, stepped}
-use Rattle.runs.specs.Stepping.{StepsAs}
 use Rattle.runs.specs.declared.ends.RunEnd.{RunEnd}
 use Rattle.runs.specs.declared.ends.RunEnd.TheVariants.{Returned, Faulted, Unset, Running}
-use Rattle.runs.specs.declared.ends.StepEnd.TheVariants as ends
 
 over_stays : {S : Type 0} (step : S → Step S) (t : S) (n : ℕ) (e : RunEnd) → IsOver e → stepped step n (t, e) ≡ (t, e)
 over_stays step t n (Returned i) over = refl
@@ -58,35 +56,6 @@ run_by_end step s n e h = λ i. ((run_of step s n).0, h i)
 pub one_more : {S : Type 0} (step : S → Step S) (s t : S) (n : ℕ) (p : Step S) → run_of step s n ≡ (t, Running) → step t ≡ p
     → run_of step s (suc n) ≡ ended_by t (suc n) p
 one_more step s t n p h k = ap (stepped step (suc n)) h ∙ ap (ended_by t (suc n)) k
-
--- what the code's step says of the step
-step-return : {S : Type 0} (p : Step S) (t u : S) → StepsAs p t ends.Return u → (p ≡ Returns) × (u ≡ t)
-step-return (Goes next) t u h = absurd (let d : ends.Return ≡ ends.Next = h.0 in cc)
-step-return Returns t u h = (refl, h.1)
-step-return Faults t u h = absurd (let d : ends.Return ≡ ends.Fault = h.0 in cc)
-step-return MeetsUnset t u h = absurd (let d : ends.Return ≡ ends.Unset = h.0 in cc)
-
-step-fault : {S : Type 0} (p : Step S) (t u : S) → StepsAs p t ends.Fault u → (p ≡ Faults) × (u ≡ t)
-step-fault (Goes next) t u h = absurd (let d : ends.Fault ≡ ends.Next = h.0 in cc)
-step-fault Returns t u h = absurd (let d : ends.Fault ≡ ends.Return = h.0 in cc)
-step-fault Faults t u h = (refl, h.1)
-step-fault MeetsUnset t u h = absurd (let d : ends.Fault ≡ ends.Unset = h.0 in cc)
-
--- How the code's run ends: it has come to t by i steps, and its next step ends it.
-run-ended : {S : Type 0} (step : S → Step S) (s t u : S) (e : RunEnd) (p : Step S) (i n : ℕ) → IsOver e → ended_by t (suc i) p ≡ (t, e)
-    → run_of step s i ≡ (t, Running) → (step t ≡ p) × (u ≡ t) → i < n → run_of step s n ≡ (u, e)
-run-ended step s t u e p i n over ends_so h k lt =
-    stays_over step s t e (suc i) n over (omega arith) (one_more step s t i p h k.0 ∙ ends_so) ∙ (λ j. (sym k.1 j, e))
-
-pub run-returned : {S : Type 0} (step : S → Step S) (s t u : S) (i n : ℕ) → run_of step s i ≡ (t, Running) → StepsAs (step t) t ends.Return u → i < n
-    → run_of step s n ≡ (u, Returned (i + 1))
-run-returned step s t u i n h k lt =
-    rw add-one (run-ended step s t u (Returned (suc i)) Returns i n tt refl h (step-return (step t) t u k) lt)
-
-pub run-faulted : {S : Type 0} (step : S → Step S) (s t u : S) (i n : ℕ) → run_of step s i ≡ (t, Running) → StepsAs (step t) t ends.Fault u → i < n
-    → run_of step s n ≡ (u, Faulted (i + 1))
-run-faulted step s t u i n h k lt =
-    rw add-one (run-ended step s t u (Faulted (suc i)) Faults i n tt refl h (step-fault (step t) t u k) lt)
 
 ended-later : {S : Type 0} (s : S) (l n : ℕ) (p : Step S) → ended_by s (suc (l + n)) p ≡ later l (ended_by s (suc n) p)
 ended-later s l n (Goes next) = refl

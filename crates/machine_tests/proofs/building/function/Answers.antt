@@ -1,7 +1,7 @@
 use Rattle.std.proofs.Common.{◌≡◌, [], ◌∷◌, ◌++◌, sym, subst, arith, ◌∙◌}
 use Rattle.insn_table.specs.Closed.{IsClosed}
 use Rattle.insn_table.proofs.ClosedLists.{closed_by}
-use Rattle.machine.proofs.tests.function.Goals as goal
+use Rattle.machine_tests.proofs.building.function.Goals as goal
 
 pub returns : goal.returns
 returns c =

@@ -1,6 +1,6 @@
 use Rattle.std.proofs.Common.{sym, ◌∙◌}
 use Rattle.insn_table.proofs.TableInsns.{fitted-insn}
-use Rattle.machine.proofs.tests.fitted.Goals as goal
+use Rattle.machine_tests.proofs.building.fitted.Goals as goal
 
 pub returns-in-Ok : goal.returns-in-Ok
 returns-in-Ok c =

@@ -1,8 +1,9 @@
+//! First differences of two states, each worked by hand.
 ghost use Rattle.std.specs.Prelude.{◌≡◌, IfOk, length};
 
-use crate::{Difference, Span, State};
 use align_base::Output;
 use lane_views::Bytes32;
+use machine::{Difference, Span, State};
 use std::alloc::Global;
 use std::test::Fail;
 
