@@ -1,5 +1,5 @@
 -- Joined bounds stay small.
-use Rattle.std.proofs.Common.{◌≡◌, ℕ, suc, ◌+◌, ◌*◌, ◌^◌, ◌<◌, ◌≤◌, [], ◌∷◌, ◌-◌, All, List, drop, fold, slice_index_or, take, take_all, length, max, ◌∙◌, sym, ap, refl, lit<, arith}
+use Rattle.std.proofs.Common.{◌≡◌, ℕ, suc, ◌+◌, ◌*◌, ◌^◌, ◌<◌, ◌≤◌, [], ◌∷◌, ◌-◌, All, List, drop, fold, slice_index_or, take, take_all, length, refl, lit<, arith}
 use Rattle.std.proofs.lemmas.List.Elements.{All-tail}
 use Rattle.std.proofs.lemmas.Nat.{mul-le}
 use Rattle.std.proofs.lemmas.Grind.{pow_more}
