@@ -8,7 +8,8 @@ use Rattle.machine.specs.Frame.{SameFrame}
 use Rattle.machine.specs.Machine.{IsInStack, Machine, offset_from}
 use Rattle.machine.proofs.Frames.{run_frame}
 use Rattle.runs.specs.Run.{run_of}
-use Rattle.product_simulation.specs.Related.{SameEndAt, Scratch, function_step}
+use Rattle.product_simulation.specs.Functions.{function_step}
+use Rattle.product_simulation.specs.Related.{SameEndAt, Scratch}
 
 agree-trans : (x y z : Machine) (output : Output) → Agree x y output → Agree y z output → Agree x z output
 agree-trans x y z (Reg n w) h k = h ∙ k

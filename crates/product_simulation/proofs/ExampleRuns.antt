@@ -9,7 +9,7 @@ use Rattle.runs.specs.declared.ends.RunEnd.TheVariants.{Returned, Running}
 use Rattle.products.specs.declared.product.PEdge.{PEdge}
 use Rattle.products.specs.declared.product.PNode.{PNode}
 use Rattle.products.specs.Ranks.{HasLowRanks, LowersRanks, RanksFall, bound_of, longest_path}
-use Rattle.product_simulation.specs.Examples.{AnyEnd, IsAtEntry, StandingRelated, StandsAt, WaitingRelated, circle_edge, edge_of, endless_step, entry_edge, node_at, quick_step, slow_step, standing_product, waiting_product}
+use Rattle.product_simulation.specs.Examples.{AnyEnd, IsAtEntry, StandingRelated, AtPlaces, WaitingRelated, circle_edge, edge_of, endless_step, entry_edge, node_at, quick_step, slow_step, standing_product, waiting_product}
 use Rattle.product_simulation.specs.Leads.{EdgesLead, LeadsOn}
 
 low_node : (n : ℕ) (left right rank : ℕ) → rank < n → HasLowRanks n (node_at left right rank)
@@ -31,33 +31,30 @@ waiting_falls = record {
       (record { target = lit< tt; left = λ e. absurd (cc); right = λ e. absurd (cc) }, tt)));
 }
 
-waiting_product-leads : (node : ℕ) → node < 4 → node ≢ 1 → (a b : ℕ) → WaitingRelated node a b → LeadsOn (λ s. s) quick_step slow_step waiting_product WaitingRelated node a b
-waiting_product-leads zero within inside a b h = rw (h.left_place, h.right_place) (record {
-  number = 0;
+waiting-leads : (node : ℕ) → node < 4 → node ≢ 1 → (a b : ℕ) → WaitingRelated node a b → LeadsOn (λ s. s) quick_step slow_step waiting_product WaitingRelated node a b
+waiting-leads zero within inside a b h = rw (h.left_place, h.right_place) (record {
   edge = edge_of 0 2 [] (0 ∷ []);
-  is_edge = refl;
+  is_edge = (0, lit< tt, refl);
   from = refl;
-  goes = inl (record { left_end = 0; right_end = 1; left = refl; right = refl; into = record { left_place = refl; right_place = refl } });
+  is_way = inl (record { left_end = 0; right_end = 1; left = refl; right = refl; into = record { left_place = refl; right_place = refl } });
 })
-waiting_product-leads (suc zero) within inside a b h = absurd (inside refl)
-waiting_product-leads (suc (suc zero)) within inside a b h = rw (h.left_place, h.right_place) (record {
-  number = 1;
+waiting-leads (suc zero) within inside a b h = absurd (inside refl)
+waiting-leads (suc (suc zero)) within inside a b h = rw (h.left_place, h.right_place) (record {
   edge = edge_of 2 3 [] (1 ∷ []);
-  is_edge = refl;
+  is_edge = (1, lit< tt, refl);
   from = refl;
-  goes = inl (record { left_end = 0; right_end = 2; left = refl; right = refl; into = record { left_place = refl; right_place = refl } });
+  is_way = inl (record { left_end = 0; right_end = 2; left = refl; right = refl; into = record { left_place = refl; right_place = refl } });
 })
-waiting_product-leads (suc (suc (suc zero))) within inside a b h = rw (h.left_place, h.right_place) (record {
-  number = 2;
+waiting-leads (suc (suc (suc zero))) within inside a b h = rw (h.left_place, h.right_place) (record {
   edge = edge_of 3 1 (0 ∷ []) (2 ∷ []);
-  is_edge = refl;
+  is_edge = (2, lit< tt, refl);
   from = refl;
-  goes = inl (record { left_end = 0; right_end = 2; left = refl; right = refl; into = tt });
+  is_way = inl (record { left_end = 0; right_end = 2; left = refl; right = refl; into = tt });
 })
-waiting_product-leads (suc (suc (suc (suc k)))) within inside a b h = absurd h
+waiting-leads (suc (suc (suc (suc k)))) within inside a b h = absurd h
 
 pub waiting_leads : EdgesLead (λ s. s) quick_step slow_step waiting_product WaitingRelated
-waiting_leads node within inside a b h = waiting_product-leads node within inside a b h
+waiting_leads node within inside a b h = waiting-leads node within inside a b h
 
 -- within the longest path's length the slow function has not returned when the quick one has
 pub longest_is_no_bound : AreEquivalent IsAtEntry AnyEnd (longest_path waiting_product.edges) quick_step slow_step → ⊥
@@ -75,27 +72,25 @@ standing_falls = record {
       (record { target = lit< tt; left = λ e. lit< tt; right = λ e. absurd (cc) }, tt);
 }
 
-standing_product-leads : (node : ℕ) → node < 3 → node ≢ 1 → (a b : ℕ) → StandingRelated node a b
+standing-leads : (node : ℕ) → node < 3 → node ≢ 1 → (a b : ℕ) → StandingRelated node a b
     → LeadsOn (λ s. s) quick_step endless_step (standing_product (entry_edge ∷ circle_edge ∷ [])) StandingRelated node a b
-standing_product-leads zero within inside a b h = rw (h.left_place, h.right_place) (record {
-  number = 0;
+standing-leads zero within inside a b h = rw (h.left_place, h.right_place) (record {
   edge = entry_edge;
-  is_edge = refl;
+  is_edge = (0, lit< tt, refl);
   from = refl;
-  goes = inl (record { left_end = 0; right_end = 0; left = refl; right = refl; into = record { left_place = refl; right_place = refl } });
+  is_way = inl (record { left_end = 0; right_end = 0; left = refl; right = refl; into = record { left_place = refl; right_place = refl } });
 })
-standing_product-leads (suc zero) within inside a b h = absurd (inside refl)
-standing_product-leads (suc (suc zero)) within inside a b h = rw (h.left_place, h.right_place) (record {
-  number = 1;
+standing-leads (suc zero) within inside a b h = absurd (inside refl)
+standing-leads (suc (suc zero)) within inside a b h = rw (h.left_place, h.right_place) (record {
   edge = circle_edge;
-  is_edge = refl;
+  is_edge = (1, lit< tt, refl);
   from = refl;
-  goes = inl (record { left_end = 0; right_end = 0; left = refl; right = refl; into = record { left_place = refl; right_place = refl } });
+  is_way = inl (record { left_end = 0; right_end = 0; left = refl; right = refl; into = record { left_place = refl; right_place = refl } });
 })
-standing_product-leads (suc (suc (suc k))) within inside a b h = absurd h
+standing-leads (suc (suc (suc k))) within inside a b h = absurd h
 
 pub standing_leads : EdgesLead (λ s. s) quick_step endless_step (standing_product (entry_edge ∷ circle_edge ∷ [])) StandingRelated
-standing_leads node within inside a b h = standing_product-leads node within inside a b h
+standing_leads node within inside a b h = standing-leads node within inside a b h
 
 -- the endless function goes on
 endless_step-goes : (n : ℕ) → run_of endless_step 0 n ≡ (0, Running)

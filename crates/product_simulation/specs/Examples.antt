@@ -35,7 +35,7 @@ waiting_product = record {
 }
 
 -- two states stand at these places
-pub record StandsAt (left right a b : ℕ) : Type 0 where
+pub record AtPlaces (left right a b : ℕ) : Type 0 where
   pub left_place : a ≡ left
   pub right_place : b ≡ right
 
@@ -47,10 +47,10 @@ abbrev pub IsAtEntry : ℕ → Type 0
 IsAtEntry s = s ≡ 0
 
 abbrev pub WaitingRelated : ℕ → ℕ → ℕ → Type 0
-WaitingRelated zero a b = StandsAt 0 0 a b
+WaitingRelated zero a b = AtPlaces 0 0 a b
 WaitingRelated (suc zero) a b = AnyEnd a b
-WaitingRelated (suc (suc zero)) a b = StandsAt 0 1 a b
-WaitingRelated (suc (suc (suc zero))) a b = StandsAt 0 2 a b
+WaitingRelated (suc (suc zero)) a b = AtPlaces 0 1 a b
+WaitingRelated (suc (suc (suc zero))) a b = AtPlaces 0 2 a b
 WaitingRelated (suc (suc (suc (suc k)))) a b = ⊥
 
 -- Along its last edge, whose rank does not fall, the right function goes on for ever and the left one does not.
@@ -64,7 +64,7 @@ abbrev pub circle_edge : PEdge
 circle_edge = edge_of 2 2 [] (0 ∷ [])
 
 abbrev pub StandingRelated : ℕ → ℕ → ℕ → Type 0
-StandingRelated zero a b = StandsAt 0 0 a b
+StandingRelated zero a b = AtPlaces 0 0 a b
 StandingRelated (suc zero) a b = AnyEnd a b
-StandingRelated (suc (suc zero)) a b = StandsAt 0 0 a b
+StandingRelated (suc (suc zero)) a b = AtPlaces 0 0 a b
 StandingRelated (suc (suc (suc k))) a b = ⊥

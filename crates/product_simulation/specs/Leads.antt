@@ -1,6 +1,6 @@
--- What an edge of a product says of two runs, over states of any kind: they go on along its paths into the relation of the
--- node that it leads to, or both fault within them. Node 1 is the exit, where both have returned.
-use Rattle.std.specs.Prelude.{◌≡◌, ◌≢◌, ◌⊎◌, ℕ, ◌==◌, ◌<◌, List, length, Option, None, Some, option_map, slice_get, if◌then◌else◌}
+-- Ways on from a node of a product, over states of any kind: both runs follow an edge's paths into the relation of the node
+-- that it leads to, or both fault within them. Node 1 is the exit, where both have returned.
+use Rattle.std.specs.Prelude.{◌≡◌, ◌≢◌, ◌⊎◌, ℕ, ◌==◌, ◌<◌, Contains, List, length, Option, None, option_map, slice_get, if◌then◌else◌}
 use Rattle.runs.specs.Run.{Step}
 use Rattle.runs.specs.Path.{Way, Through, Back, Fell, way}
 use Rattle.products.specs.declared.product.PEdge.{PEdge}
@@ -28,7 +28,8 @@ abbrev pub arrival : {S : Type 0} → ℕ → S → Way S
 arrival node end = if node == 1 then Back end else Through end
 
 -- both runs follow the edge's paths into the relation of the node that it leads to
-pub record BothFollow {S : Type 0} (place : S → ℕ) (f g : S → Step S) (p : Product) (related : ℕ → S → S → Type 0) (e : PEdge) (a b : S) : Type 0 where
+pub record BothFollow {S : Type 0} (place : S → ℕ) (f g : S → Step S) (p : Product) (related : ℕ → S → S → Type 0)
+    (e : PEdge) (a b : S) : Type 0 where
   pub left_end : S
   pub right_end : S
   pub left : way place f e.left (left_next p e.to) a ≡ arrival e.to left_end
@@ -45,12 +46,12 @@ abbrev pub IsWayOn : {S : Type 0} → (S → ℕ) → (f g : S → Step S) → P
 IsWayOn place f g p related e a b = BothFollow place f g p related e a b ⊎ BothFault place f g p e a b
 
 -- an edge from the node is a way on for the two states
-pub record LeadsOn {S : Type 0} (place : S → ℕ) (f g : S → Step S) (p : Product) (related : ℕ → S → S → Type 0) (node : ℕ) (a b : S) : Type 0 where
-  pub number : ℕ
+pub record LeadsOn {S : Type 0} (place : S → ℕ) (f g : S → Step S) (p : Product) (related : ℕ → S → S → Type 0)
+    (node : ℕ) (a b : S) : Type 0 where
   pub edge : PEdge
-  pub is_edge : slice_get p.edges number ≡ Some edge
+  pub is_edge : Contains p.edges edge
   pub from : edge.from ≡ node
-  pub goes : IsWayOn place f g p related edge a b
+  pub is_way : IsWayOn place f g p related edge a b
 
 -- each two states in the relation of a node but the exit have a way on
 abbrev pub EdgesLead : {S : Type 0} → (S → ℕ) → (f g : S → Step S) → Product → (ℕ → S → S → Type 0) → Type 0

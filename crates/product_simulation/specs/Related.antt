@@ -1,15 +1,11 @@
--- When two states of the machine stand in the relation of a product's node.
+-- When two states of the machine are related at a node of a product.
 use Rattle.std.specs.Prelude.{◌≡◌, ℕ, zero, suc, ◌^◌, ◌<◌, Bool, true, List, Some}
 use Rattle.align_base.specs.declared.output.Output.{Output}
 use Rattle.machine.specs.Difference.{SameEnd, is_in_scratch}
-use Rattle.insn_table.specs.declared.insn.Function.{Function}
 use Rattle.machine.specs.Machine.{IsStart, IsState, Machine}
-use Rattle.machine.specs.Step.{step_of}
-use Rattle.runs.specs.Run.{Step}
 use Rattle.products.specs.declared.product.PNode.{PNode}
 use Rattle.products.specs.declared.product.Product.{Product}
-use Rattle.runs.specs.Equivalent.{AreEquivalent}
-use Rattle.product_simulation.specs.Leads.{EdgesLead, left_place, right_place}
+use Rattle.product_simulation.specs.Leads.{left_place, right_place}
 
 -- the scratch lines, each its base and its length, by the entry registers
 abbrev pub Scratch : Type 0
@@ -37,7 +33,8 @@ pub record IsStartWhere (test : Machine → Bool) (s : Machine) : Type 0 where
   pub holds : test s ≡ true
 
 -- the two states stand at the places of the node of this number, with equal memories, and the test holds of them
-pub record StandAt (nodes : List PNode) (number : ℕ) (scratch : Scratch) (test : Machine → Machine → Bool) (a b : Machine) : Type 0 where
+pub record StandAt (nodes : List PNode) (number : ℕ) (scratch : Scratch) (test : Machine → Machine → Bool)
+    (a b : Machine) : Type 0 where
   pub alike : EnteredAlike a b
   pub left : left_place nodes number ≡ Some a.place
   pub right : right_place nodes number ≡ Some b.place
@@ -49,22 +46,9 @@ pub record ReturnedAlike (live : List Output) (scratch : Scratch) (a b : Machine
   pub alike : EnteredAlike a b
   pub same : SameEndAt live scratch a b
 
--- the step of a function
-abbrev pub function_step : Function → Machine → Step Machine
-function_step f = step_of f.insns f.pool
-
--- Two states stand in the relation of a node, where a test for each node says what else holds of them: at the entry they are
--- one start state, and at the exit they have returned with the same end.
-abbrev pub related : Product → List Output → Scratch → (ℕ → Machine → Machine → Bool) → ℕ → Machine → Machine → Type 0
-related p live scratch holds zero a b = IsStartWhere (λ s. holds 0 s s) a × (a ≡ b)
-related p live scratch holds (suc zero) a b = ReturnedAlike live scratch a b
-related p live scratch holds (suc (suc k)) a b = StandAt p.nodes (suc (suc k)) scratch (holds (suc (suc k))) a b
-
--- Each two related states of two functions have a way on.
-abbrev pub ProductLeads : (left right : Function) → Product → List Output → Scratch → (ℕ → Machine → Machine → Bool) → Type 0
-ProductLeads left right p live scratch holds =
-    EdgesLead (λ s. s.place) (function_step left) (function_step right) p (related p live scratch holds)
-
--- Two functions are equivalent within k, from each start state of which the test holds.
-abbrev pub EquivalentFunctions : (Machine → Bool) → List Output → Scratch → (k : ℕ) → (f g : Function) → Type 0
-EquivalentFunctions test live scratch k f g = AreEquivalent (IsStartWhere test) (SameEndAt live scratch) k (function_step f) (function_step g)
+-- Two states are related at a node, where a test for each node says what else holds of them. At the entry they are one start
+-- state, and at the exit they have returned with the same end.
+abbrev pub AreRelated : Product → List Output → Scratch → (ℕ → Machine → Machine → Bool) → ℕ → Machine → Machine → Type 0
+AreRelated p live scratch holds zero a b = IsStartWhere (λ s. holds 0 s s) a × (a ≡ b)
+AreRelated p live scratch holds (suc zero) a b = ReturnedAlike live scratch a b
+AreRelated p live scratch holds (suc (suc k)) a b = StandAt p.nodes (suc (suc k)) scratch (holds (suc (suc k))) a b

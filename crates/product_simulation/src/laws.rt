@@ -12,7 +12,8 @@ ghost use Rattle.products.specs.Ranks.{RanksFall, bound_of};
 ghost use Rattle.product_simulation.specs.Chains.{AreLinked, Link, bounds_of, last_of};
 ghost use Rattle.product_simulation.specs.Leads.{IsWayOn, left_next, right_next};
 ghost use Rattle.product_simulation.specs.Pace.{KeepsPace};
-ghost use Rattle.product_simulation.specs.Related.{EquivalentFunctions, IsStartWhere, ProductLeads, SameEndAt, Scratch, function_step};
+ghost use Rattle.product_simulation.specs.Functions.{EquivalentFunctions, ProductLeads, function_step};
+ghost use Rattle.product_simulation.specs.Related.{IsStartWhere, SameEndAt, Scratch};
 
 use align_base::Output;
 use insn_table::Function;

@@ -14,6 +14,8 @@
 
 mod examples;
 mod laws;
+#[cfg(test)]
+mod tests;
 
 pub use examples::{falling_ranks_law, nodes_count_law};
 pub use laws::{chain_law, cycle_law, no_way_law, simulation_law};

@@ -1,17 +1,24 @@
 -- Joined bounds stay small.
-use Rattle.std.proofs.Common.{◌≡◌, ℕ, ◌+◌, ◌*◌, ◌^◌, ◌<◌, ◌≤◌, All, List, drop, drop-cons, add-one, fold, length, ◌∙◌, sym, ap, slice_index_or, lit<, arith}
+use Rattle.std.proofs.Common.{◌≡◌, ℕ, suc, ◌+◌, ◌*◌, ◌^◌, ◌<◌, ◌≤◌, [], ◌∷◌, ◌-◌, All, List, drop, fold, slice_index_or, take, take_all, length, refl, lit<, arith}
+use Rattle.std.proofs.lemmas.List.Elements.{All-tail}
 use Rattle.std.proofs.lemmas.Nat.{mul-le}
 use Rattle.std.proofs.lemmas.Grind.{pow_more}
 use Rattle.std.proofs.Math.Nat.{pow-le-pow_right}
 use Rattle.products.specs.Bounds.{composed_bound, joined_bound}
 
--- The first i bounds are joined, and their join is below the product of as many numbers 32,769.
-pub record IsComposedSoFar (bound i : ℕ) (ks : List ℕ) : Type 0 where
-  pub rest : fold joined_bound bound (drop i ks) ≡ composed_bound ks
-  pub below : bound < 32769 ^ i
+-- Some of seven bounds are joined, and the rest are to come. The join is below the product of as many numbers 32,769.
+pub record IsComposedSoFar (bound : ℕ) (rest ks : List ℕ) : Type 0 where
+  pub joined : ℕ
+  pub few : joined + length rest ≤ 7
+  pub small : All (λ k. k ≤ 32768) rest
+  pub below : bound < 32769 ^ joined
+  pub same : fold joined_bound bound rest ≡ composed_bound ks
 
-joined_bound-below_product : (k l b : ℕ) → k < b → l ≤ 32768 → joined_bound k l < b * 32769
-joined_bound-below_product k l b below small =
+pub composed_so_far-none : (ks : List ℕ) → All (λ k. k ≤ 32768) ks → length ks ≤ 7 → IsComposedSoFar 0 ks ks
+composed_so_far-none ks small few = record { joined = 0; few = omega arith; small = small; below = lit< tt; same = refl }
+
+joined_bound-below : (k l b : ℕ) → k < b → l ≤ 32768 → joined_bound k l < b * 32769
+joined_bound-below k l b below small =
     let lower : k * l ≤ k * 32768 = mul-le k l k 32768 (omega arith) small in
     omega arith
 
@@ -21,29 +28,37 @@ power-below i few =
     let limit : 32769 ^ 7 < 2 ^ 106 = lit< tt in
     omega arith
 
--- one more bound keeps the join small,
-joined_bound-so_far : (ks : List ℕ) (bound i : ℕ) → All (λ k. k ≤ 32768) ks → i < length ks → IsComposedSoFar bound i ks
-    → joined_bound bound (slice_index_or ks i 0) < 32769 ^ (i + 1)
-joined_bound-so_far ks bound i small within h =
-    let here = joined_bound-below_product bound (slice_index_or ks i 0) (32769 ^ i) h.below (small i 0 within) in
-    omega (arith, pow_more 32769 i)
+-- one more bound joined
+composed_so_far-more : (ks rest : List ℕ) (bound k : ℕ) → IsComposedSoFar bound (k ∷ rest) ks → IsComposedSoFar (joined_bound bound k) rest ks
+composed_so_far-more ks rest bound k h =
+    let here : joined_bound bound k < 32769 ^ h.joined * 32769 = joined_bound-below bound k (32769 ^ h.joined) h.below (h.small 0 k (omega arith)) in
+    let all = h.few in
+    record {
+      joined = h.joined + 1;
+      few = omega arith;
+      small = All-tail (λ (n : ℕ). n ≤ 32768) k rest h.small;
+      below = omega (arith, pow_more 32769 h.joined);
+      same = h.same;
+    }
 
--- below the limit,
-pub joined_below_limit : (ks : List ℕ) (bound i : ℕ) → All (λ k. k ≤ 32768) ks → length ks ≤ 7 → i < length ks → IsComposedSoFar bound i ks
-    → joined_bound bound (slice_index_or ks i 0) < 2 ^ 106
-joined_below_limit ks bound i small few within h =
-    let here = joined_bound-so_far ks bound i small within h in
-    let limit = power-below (i + 1) (omega arith) in
-    omega arith
+-- the first of the rest joined
+pub composed_so_far-after : (ks rest : List ℕ) (bound next : ℕ) → 1 ≤ length rest → IsComposedSoFar bound rest ks
+    → next ≡ joined_bound bound (slice_index_or rest 0 0) → IsComposedSoFar next (take (length rest - 1) (drop 1 rest)) ks
+composed_so_far-after ks [] bound next some h is = absurd (omega arith)
+composed_so_far-after ks (k ∷ rest) bound next some h is =
+    let all : take (suc (length rest) - 1) rest ≡ rest = take_all (suc (length rest) - 1) rest (omega arith) in
+    rw (is, all) (composed_so_far-more ks rest bound k h)
 
--- and joins one more.
-pub composed_bound-more : (ks : List ℕ) (bound i next : ℕ) → All (λ k. k ≤ 32768) ks → i < length ks → IsComposedSoFar bound i ks
-    → next ≡ joined_bound bound (slice_index_or ks i 0) → IsComposedSoFar next (i + 1) ks
-composed_bound-more ks bound i next small within h is = record {
-  rest = rw (is, add-one) (ap (fold joined_bound bound) (sym (drop-cons ks i 0 within)) ∙ h.rest);
-  below = rw is (joined_bound-so_far ks bound i small within h);
-}
+-- the join of seven bounds or fewer is below the limit
+pub composed_so_far-below : (ks rest : List ℕ) (bound : ℕ) → IsComposedSoFar bound rest ks → bound < 2 ^ 106
+composed_so_far-below ks rest bound h =
+    let all = h.few in
+    let limit = power-below h.joined (omega arith) in
+    omega (arith, h.below)
 
--- The join of seven bounds or fewer is below the limit.
-pub composed_below_limit : (ks : List ℕ) (bound i : ℕ) → i ≤ 7 → IsComposedSoFar bound i ks → bound < 2 ^ 106
-composed_below_limit ks bound i few h = let limit = power-below i few in omega (arith, h.below)
+-- so is the next one
+pub next_bound-below : (ks rest : List ℕ) (bound : ℕ) → 1 ≤ length rest → IsComposedSoFar bound rest ks
+    → joined_bound bound (slice_index_or rest 0 0) < 2 ^ 106
+next_bound-below ks rest bound some h =
+    composed_so_far-below ks (take (length rest - 1) (drop 1 rest)) (joined_bound bound (slice_index_or rest 0 0))
+    (composed_so_far-after ks rest bound (joined_bound bound (slice_index_or rest 0 0)) some h refl)

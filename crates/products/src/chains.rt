@@ -10,12 +10,14 @@ pub fn compose(ks: &[u64]) -> u128
     requires some { 1 ≤ length ks.now }
     requires few { length ks.now ≤ 7 }
     requires small { All (λ k. k ≤ 32768) ks.now }
-    ensures composed_bound { result ≡ composed_bound ks.now }
+    ensures bound { result ≡ composed_bound ks.now }
     ensures below { result < 2 ^ 106 }
 {
     let mut bound = 0;
-    for k in ks {
+    let mut rest = ks;
+    while let [k, after @ ..] = rest {
         bound = join(bound, *k as u128);
+        rest = after;
     }
     bound
 }

@@ -1,4 +1,5 @@
-use Rattle.product_simulation.specs.Related.{IsStartWhere, SameEndAt, function_step}
+use Rattle.product_simulation.specs.Functions.{function_step}
+use Rattle.product_simulation.specs.Related.{IsStartWhere, SameEndAt}
 use Rattle.product_simulation.proofs.Composing.{chain_equivalent, equivalent_joined}
 use Rattle.product_simulation.proofs.Ends.{ends_join}
 use Rattle.product_simulation.proofs.laws.chain_law.Goals as goal
