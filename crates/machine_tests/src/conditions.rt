@@ -33,13 +33,22 @@ const PRODUCT: Statement<'static> = Statement {
 #[test]
 fn a_jump_reads_its_flags_where_both_ways_are_one(rt: HostRuntime) -> Result<(), Fail> {
     for mnemonic in CONDITIONAL_JUMPS {
-        let [to_1, to_2, to_3] = [1, 2, 3].map(|place| one(mnemonic, Operand::Target(place)));
         // at the entry no flag is set
-        let (end, seen) = outcome(rt.alloc(), &[to_1], 0, 0)?;
+        let jump = one(mnemonic, Operand::Target(1));
+        let (end, seen) = outcome(rt.alloc(), &[jump], 0, 0)?;
         assert_eq!(rt; (end, seen.place), (RunEnd::Unset(1), 0));
-        assert_eq!(rt; end_of(rt.alloc(), &[COMPARE, to_2], 0, 0)?, RunEnd::Returned(3));
-        // a product leaves each flag unset
-        let (end, seen) = outcome(rt.alloc(), &[COMPARE_FACTORS, PRODUCT, to_3], 0, 0)?;
+        let jump = one(mnemonic, Operand::Target(2));
+        let end = end_of(rt.alloc(), &[COMPARE, jump], 0, 0)?;
+        assert_eq!(rt; end, RunEnd::Returned(3));
+    }
+    Ok(())
+}
+
+#[test]
+fn a_product_leaves_each_flag_unset(rt: HostRuntime) -> Result<(), Fail> {
+    for mnemonic in CONDITIONAL_JUMPS {
+        let jump = one(mnemonic, Operand::Target(3));
+        let (end, seen) = outcome(rt.alloc(), &[COMPARE_FACTORS, PRODUCT, jump], 0, 0)?;
         assert_eq!(rt; (end, seen.place), (RunEnd::Unset(3), 2));
     }
     let jump = one(b"jo", Operand::Target(2));
@@ -70,8 +79,8 @@ fn a_conditional_jump_goes_one_of_two_ways(rt: HostRuntime) -> Result<(), Fail> 
         let jump = one(mnemonic, Operand::Target(3));
         let (end, seen) = outcome(rt.alloc(), &[compare, jump, count], rax, 7)?;
         let (steps, rcx) = if jumps { (3, 7) } else { (4, 8) };
-        assert_eq!(rt; (end, seen.place), (RunEnd::Returned(steps), 3), "from {rax}");
-        assert_eq!(rt; seen.rcx, rcx, "from {rax}");
+        let seen = (end, seen.place, seen.rcx);
+        assert_eq!(rt; seen, (RunEnd::Returned(steps), 3, rcx), "from {rax}");
     }
     Ok(())
 }
@@ -96,8 +105,7 @@ fn a_move_whose_condition_is_false(rt: HostRuntime) -> Result<(), Fail> {
 }
 
 #[test]
-fn a_move_by_condition_reads_its_flags_and_then_its_memory(rt: HostRuntime) -> Result<(), Fail> {
-    // where the condition is false it reads its memory too
+fn a_move_whose_condition_is_false_reads_its_memory(rt: HostRuntime) -> Result<(), Fail> {
     let choice = two(b"cmovne", AT_RCX, EAX);
     for (at, end, place, rax) in [
         (4096, RunEnd::Returned(3), 2, 5),
@@ -106,7 +114,12 @@ fn a_move_by_condition_reads_its_flags_and_then_its_memory(rt: HostRuntime) -> R
         let (ended, seen) = outcome(rt.alloc(), &[COMPARE, choice], 0xFFFF_FFFF_0000_0005, at)?;
         assert_eq!(rt; (ended, seen.place, seen.rax), (end, place, rax));
     }
-    // an unset flag wins over a fault
+    Ok(())
+}
+
+#[test]
+fn an_unset_flag_wins_over_a_fault(rt: HostRuntime) -> Result<(), Fail> {
+    let choice = two(b"cmovne", AT_RCX, EAX);
     for statement in [choice, one(b"sete", AT_RCX)] {
         assert_eq!(rt; end_of(rt.alloc(), &[statement], 0, 0)?, RunEnd::Unset(1));
         assert_eq!(rt; end_of(rt.alloc(), &[COMPARE, statement], 0, 0)?, RunEnd::Faulted(2));

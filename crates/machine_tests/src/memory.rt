@@ -1,12 +1,15 @@
 //! Accesses at the ends of regions, addresses, and what is written.
 
 use crate::statements::{AT_RCX, COMPARE, EAX, NONE, RAX, RCX, memory_at, one, register, two};
-use crate::trials::{bytes_after, end_of, outcome};
+use crate::trials::{end_of, outcome, word_after};
 use insn_table::{Operand, Statement};
 use machine::RunEnd;
 use std::test::Fail;
 
 const LAST: u64 = 0xFFFF_FFFF_FFFF_FFFF;
+
+/// The eight bytes 0x11 that each region begins with.
+const ELEVENS: u64 = 0x1111_1111_1111_1111;
 
 /// A statement, the address in `%rcx`, and whether its access is allowed.
 type Row = (Statement<'static>, u64, bool);
@@ -73,16 +76,21 @@ fn end_where(allowed: bool) -> RunEnd {
 }
 
 #[test]
-fn an_access_lies_in_one_region_with_the_right(rt: HostRuntime) -> Result<(), Fail> {
+fn an_access_lies_in_one_region(rt: HostRuntime) -> Result<(), Fail> {
     for (statement, at, allowed) in accesses() {
         let end = end_of(rt.alloc(), &[statement], 0, at)?;
         assert_eq!(rt; end, end_where(allowed), "at {at}");
     }
+    Ok(())
+}
+
+#[test]
+fn a_region_that_may_be_read_alone_stays(rt: HostRuntime) -> Result<(), Fail> {
     for (statement, at, allowed) in reads_and_writes() {
         let end = end_of(rt.alloc(), &[statement], 0, at)?;
         assert_eq!(rt; end, end_where(allowed));
-        let bytes = bytes_after(rt.alloc(), &[statement], 0, at, at)?;
-        assert_eq!(rt; bytes, [0x11; 8]);
+        let word = word_after(rt.alloc(), &[statement], 0, at, at)?;
+        assert_eq!(rt; word, ELEVENS);
     }
     Ok(())
 }
@@ -197,20 +205,23 @@ fn writes_of_each_width(rt: HostRuntime) -> Result<(), Fail> {
     ] {
         let load = two(mnemonic, memory_at(RCX, 8), register(RAX, w));
         let (end, seen) = outcome(rt.alloc(), &[load], LAST, 4096)?;
-        assert_eq!(rt; (end, seen.rax), (RunEnd::Returned(2), rax));
-        assert_eq!(rt; seen.entry_rax, LAST);
+        let seen = (end, seen.rax, seen.entry_rax);
+        assert_eq!(rt; seen, (RunEnd::Returned(2), rax, LAST));
     }
-    // addl %eax,(%rcx): 0x11111111 + 0xFF is 0x11111210, and the byte before it stays
+    Ok(())
+}
+
+#[test]
+fn a_sum_in_memory_leaves_its_neighbours(rt: HostRuntime) -> Result<(), Fail> {
+    // addl %eax,(%rcx): 0x11111111 + 0xFF is 0x11111210
     let add = two(b"addl", EAX, AT_RCX);
-    for (from, bytes) in [
-        (4107, [0x11, 0x10, 0x12, 0x11, 0x11, 0x11, 0x11, 0x11]),
-        (4112, [0x11; 8]),
-    ] {
-        let after = bytes_after(rt.alloc(), &[add], 0x1_0000_00FF, 4108, from)?;
-        assert_eq!(rt; after, bytes);
+    let rax = 0x1_0000_00FF;
+    for (at, word) in [(4104, 0x1111_1210_1111_1111), (4112, ELEVENS)] {
+        let after = word_after(rt.alloc(), &[add], rax, 4108, at)?;
+        assert_eq!(rt; after, word);
     }
-    let (end, seen) = outcome(rt.alloc(), &[add], 0x1_0000_00FF, 4108)?;
-    assert_eq!(rt; (end, seen.place), (RunEnd::Returned(2), 1));
-    assert_eq!(rt; seen.rax, 0x1_0000_00FF);
+    let (end, seen) = outcome(rt.alloc(), &[add], rax, 4108)?;
+    let seen = (end, seen.place, seen.rax);
+    assert_eq!(rt; seen, (RunEnd::Returned(2), 1, rax));
     Ok(())
 }

@@ -1,7 +1,7 @@
 //! Runs of `push`, `pop` and `ret` within the declared stack bytes.
 
 use crate::statements::{NONE, RAX, RCX, RSP, memory_at, none, one, register, two};
-use crate::trials::{bytes_after, outcome};
+use crate::trials::{outcome, word_after};
 use insn_table::{Operand, Statement};
 use machine::RunEnd;
 use std::test::Fail;
@@ -21,7 +21,7 @@ const POP: Statement<'static> = Statement {
 /// Two statements, the start's `%rax`, and then the end, the place, `%rsp` and `%rcx`.
 type Row = (Statement<'static>, Statement<'static>, u64, RunEnd, u64, u64);
 
-fn rows() -> [Row; 7] {
+fn rows() -> [Row; 8] {
     let rsp = register(RSP, 64);
     let up = two(b"leaq", memory_at(RSP, 8), rsp);
     let down = two(b"leaq", memory_at(RSP, -8), rsp);
@@ -38,6 +38,8 @@ fn rows() -> [Row; 7] {
         // a pop into the stack pointer leaves what it read
         (PUSH, pop_rsp, 8192, RunEnd::Returned(3), 8192, 0),
         (PUSH, pop_rsp, 5, fault, 5, 0),
+        // a push of it too, which stores the value before
+        (one(b"pushq", rsp), none(b"nop"), 0, fault, 8184, 0),
     ]
 }
 
@@ -45,8 +47,7 @@ fn rows() -> [Row; 7] {
 fn a_return_wants_the_stack_pointer_of_the_entry(rt: HostRuntime) -> Result<(), Fail> {
     for (first, second, rax, end, rsp, rcx) in rows() {
         let (ended, seen) = outcome(rt.alloc(), &[first, second], rax, 0)?;
-        assert_eq!(rt; (ended, seen.place), (end, 2));
-        assert_eq!(rt; (seen.rsp, seen.rcx), (rsp, rcx));
+        assert_eq!(rt; (ended, seen.place, seen.rsp, seen.rcx), (end, 2, rsp, rcx));
     }
     Ok(())
 }
@@ -60,8 +61,7 @@ fn pushes_and_pops_within_the_declared_bytes(rt: HostRuntime) -> Result<(), Fail
         ([POP, POP, POP], RunEnd::Faulted(1), 0, 8192, 0),
     ] {
         let (ended, seen) = outcome(rt.alloc(), &body, OLD, 0)?;
-        assert_eq!(rt; (ended, seen.place), (end, place));
-        assert_eq!(rt; (seen.rsp, seen.rcx), (rsp, rcx));
+        assert_eq!(rt; (ended, seen.place, seen.rsp, seen.rcx), (end, place, rsp, rcx));
     }
     Ok(())
 }
@@ -70,16 +70,14 @@ fn pushes_and_pops_within_the_declared_bytes(rt: HostRuntime) -> Result<(), Fail
 fn a_push_stores_the_value_before(rt: HostRuntime) -> Result<(), Fail> {
     // of %rax twice, and of %rsp, which is 8192 before it
     let push_rsp = one(b"pushq", register(RSP, 64));
-    for (body, at, bytes) in [
-        ([PUSH, PUSH], 8176, [8, 7, 6, 5, 4, 3, 2, 1]),
-        ([PUSH, PUSH], 8184, [8, 7, 6, 5, 4, 3, 2, 1]),
-        ([PUSH, PUSH], 8192, [0; 8]),
-        ([push_rsp, none(b"nop")], 8184, [0, 0x20, 0, 0, 0, 0, 0, 0]),
+    for (first, second, at, word) in [
+        (PUSH, PUSH, 8176, OLD),
+        (PUSH, PUSH, 8184, OLD),
+        (PUSH, PUSH, 8192, 0),
+        (push_rsp, none(b"nop"), 8184, 8192),
     ] {
-        assert_eq!(rt; bytes_after(rt.alloc(), &body, OLD, 0, at)?, bytes);
+        let stored = word_after(rt.alloc(), &[first, second], OLD, 0, at)?;
+        assert_eq!(rt; stored, word, "at {at}");
     }
-    // with a moved stack pointer the return faults
-    let (end, seen) = outcome(rt.alloc(), &[push_rsp], 0, 0)?;
-    assert_eq!(rt; (end, seen.rsp), (RunEnd::Faulted(2), 8184));
     Ok(())
 }

@@ -62,22 +62,19 @@ pub fn end_of(alloc: Global, body: &[Statement], rax: u64, rcx: u64) -> Result<R
     Ok(outcome(alloc, body, rax, rcx)?.0)
 }
 
-/// The eight bytes from an address on when that run has ended.
-pub fn bytes_after(
+/// The word of the eight bytes from an address on when that run has ended.
+pub fn word_after(
     alloc: Global,
     body: &[Statement],
     rax: u64,
     rcx: u64,
     at: u64,
-) -> Result<[u8; 8], Fail> {
+) -> Result<u64, Fail> {
     let f = function(alloc, body)?;
     let mut state = start(alloc, rax, rcx)?;
     let _end = state.run(&f, 9);
-    let mut bytes = [0; 8];
-    for k in 0..8 {
-        bytes[k] = state.byte(at.wrapping_add(k as u64));
-    }
-    Ok(bytes)
+    let bytes = [0, 1, 2, 3, 4, 5, 6, 7].map(|k| state.byte(at.wrapping_add(k)));
+    Ok(u64::from_le_bytes(bytes))
 }
 
 /// The end and `%rax` after a load of four bytes of the pool 1, 2, 3, 4, 5, 6 from a place on.
@@ -148,7 +145,7 @@ fn a_step_that_ends_the_run_repeats(rt: HostRuntime) -> Result<(), Fail> {
     Ok(())
 }
 
-/// Steps within a run of `incb (%rcx)`, `je` to the first and `jne` to the first.
+/// `incb (%rcx)`, `je` to the first and `jne` to the first.
 fn looping(alloc: Global) -> Result<Function, Fail>
     ensures { IfOk result (λ f. IsClosed f.insns) }
 {
