@@ -13,7 +13,7 @@ abbrev pub first_held : Files → List ℕ → Option (List ℕ)
 first_held [] name = None
 first_held (file ∷ files) name = if bytes_eq file.0 name then Some file.1.items else first_held files name
 
--- the bytes, where they are within the limit, and Large exactly where they aren't, unless memory is wanted
+-- the bytes, where they are within the limit, and Large exactly where they aren't, unless out of memory
 abbrev pub CopiedWithin : List ℕ → ℕ → Result (Vec ℕ Global) TakeFault → Type 0
 CopiedWithin bytes limit (Ok copy) = (copy.items ≡ bytes) × (length bytes ≤ limit)
 CopiedWithin bytes limit (Err take.Failed) = ⊥

@@ -8,6 +8,7 @@ use std::alloc::Global;
 #[derive(Drop)]
 pub struct SureSink {
     text: Vec<u8>,
+    calls: u64,
 }
 
 impl SureSink {
@@ -18,11 +19,11 @@ impl SureSink {
         ensures text { sure_text result ≡ [] }
 
         // What it is as a sink.
-        ensures written { ⟦<SureSink as Sink>⟧.written result ≡ Some [] }
-        ensures faults { ⟦<SureSink as Sink>⟧.faults result ≡ 0 }
+        ensures account { ⟦<SureSink as Sink>⟧.account result ≡ record { written = Some []; calls = 0; faults = 0 } }
     {
         SureSink {
             text: Vec::new(alloc),
+            calls: 0,
         }
     }
 
@@ -35,16 +36,13 @@ impl SureSink {
 }
 
 impl Sink for SureSink {
-    ghost use Rattle.align_base.specs.SureKinds.{sure_text};
+    ghost use Rattle.align_base.specs.SureKinds.{sure_sink_account};
 
-    ghost written = { λ s. Some (sure_text s) };
-
-    ghost faults = { λ _. 0 };
+    ghost account = { λ s. sure_sink_account s };
 
     fn give(&mut self, bytes: &[u8]) -> Result<(), GiveFault> {
-        match self.text.extend_from_slice(bytes) {
-            Ok(()) => Ok(()),
-            Err(_) => Err(GiveFault::Memory),
-        }
+        self.calls = self.calls.saturating_add(1);
+        self.text.extend_from_slice(bytes)?;
+        Ok(())
     }
 }

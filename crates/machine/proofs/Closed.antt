@@ -19,8 +19,8 @@ use Rattle.insn_table.proofs.Bools.{both_true, either_true}
 use Rattle.insn_table.proofs.TableInsns.{form-wide, judged-ok, passed_at, wide-cases}
 use Rattle.machine.specs.Access.{arity}
 use Rattle.machine.specs.Operands.{operand}
-use Rattle.machine.specs.Runnable.{HasCount, HasRowOf, IsRegister, IsRunnable, IsRunnableFunction, IsWidth, JumpsBelow}
-use Rattle.machine.specs.Step.{jump_place, target_of}
+use Rattle.machine.specs.Runnable.{HasCount, HasRowOf, IsGeneralRegister, IsRunnable, IsRunnableFunction, IsWidth, JumpsBelow}
+use Rattle.machine.specs.Step.{jump_place, target_operand}
 
 -- widths
 
@@ -118,7 +118,7 @@ shift-count i taken =
 
 -- the register that `lea` writes
 
-register_is : (w : ℕ) (o : Operand) → takes_kind (Register w) o ≡ true → IsRegister o
+register_is : (w : ℕ) (o : Operand) → takes_kind (Register w) o ≡ true → IsGeneralRegister o
 register_is w (Reg n v) kind = tt
 register_is w (Imm n) kind = absurd (cc)
 register_is w (Mem base index scale disp) kind = absurd (cc)
@@ -148,14 +148,14 @@ nothing_is (Vec n v) kind = absurd (cc)
 nothing_is (Pool at) kind = absurd (cc)
 nothing_is (Target place) kind = absurd (cc)
 
-lea-target : (i : Insn) → IsTaken (two Address (Register i.w)) i → IsRegister (target_of ops.Lea i)
+lea-target : (i : Insn) → IsTaken (two Address (Register i.w)) i → IsGeneralRegister (target_operand ops.Lea i)
 lea-target i taken =
     let form = two Address (Register i.w) in
-    let written = kind_at i form 1 (Register i.w) taken refl in
+    let regs_with = kind_at i form 1 (Register i.w) taken refl in
     let first = something Address (operand i 0) (kind_at i form 0 Address taken refl) refl in
-    let second = something (Register i.w) (operand i 1) written refl in
+    let second = something (Register i.w) (operand i 1) regs_with refl in
     let third = nothing_is (operand i 2) (kind_at i form 2 Absent taken refl) in
-    subst (λ (n : ℕ). IsRegister (operand i (n - 1))) (sym (two_operands i first second third)) (register_is i.w (operand i 1) written)
+    subst (λ (n : ℕ). IsGeneralRegister (operand i (n - 1))) (sym (two_operands i first second third)) (register_is i.w (operand i 1) regs_with)
 
 -- what a row needs, from the form that was found
 
@@ -220,6 +220,6 @@ closed-runnable insns c = record {
 }
 
 -- What `lea` writes is a register.
-pub lea_register : (i : Insn) → IsTableInsn i → i.op ≡ ops.Lea → IsRegister (target_of ops.Lea i)
+pub lea_register : (i : Insn) → IsTableInsn i → i.op ≡ ops.Lea → IsGeneralRegister (target_operand ops.Lea i)
 lea_register i t e =
     let found = table-form i t in subst (λ (op : Op). HasRowOf op i) e (table-row i.op i found.0 (table-widths i t) found.1 found.2)

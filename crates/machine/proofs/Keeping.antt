@@ -11,7 +11,7 @@ use Rattle.insn_table.specs.declared.insn.Insn.{Insn}
 use Rattle.insn_table.specs.Plain.{IsMoveOf, IsPlainMove, IsRegister, IsSignedWord, IsSource}
 use Rattle.machine.specs.Machine.{AreRegs}
 use Rattle.machine.specs.Operands.{operand}
-use Rattle.machine.specs.Straight.{computed, regs_after, regs_through, value_at, written}
+use Rattle.machine.specs.Straight.{plain_result, regs_after, regs_through, value_at, regs_with}
 
 pub signed-below : (v : ℕ) → IsSignedWord v → v < 2 ^ 64
 signed-below v (inl small) = omega arith
@@ -26,7 +26,7 @@ value-below (Pool n) regs is all = absurd is
 value-below (Target n) regs is all = absurd is
 value-below Nothing regs is all = absurd is
 
-computed-below : (o : Op) (old value : ℕ) → old < 2 ^ 64 → value < 2 ^ 64 → computed o old value < 2 ^ 64
+computed-below : (o : Op) (old value : ℕ) → old < 2 ^ 64 → value < 2 ^ 64 → plain_result o old value < 2 ^ 64
 computed-below Mov old value h k = k
 computed-below Add old value h k = omega arith
 computed-below Sub old value h k = omega arith
@@ -35,7 +35,7 @@ computed-below _ old value h k = h
 pub set-below : (regs : List ℕ) (r v n : ℕ) → r < length regs → v < 2 ^ 64 → slice_index regs n < 2 ^ 64 → slice_index (slice_set regs r v) n < 2 ^ 64
 set-below regs r v n within small h = grind (arith, common_steps)
 
-written-regs : (o : Operand) (regs : List ℕ) (v : ℕ) → IsRegister o → AreRegs regs → v < 2 ^ 64 → AreRegs (written regs o v)
+written-regs : (o : Operand) (regs : List ℕ) (v : ℕ) → IsRegister o → AreRegs regs → v < 2 ^ 64 → AreRegs (regs_with regs o v)
 written-regs (Reg r w) regs v is all small = record {
   sixteen = simp length-set all.sixteen;
   below = λ n. set-below regs r v n (omega (arith, all.sixteen, is.0)) small (all.below n);

@@ -61,9 +61,9 @@ span_written spans i at n word span new x o e from to same len bytes small =
     let ends : span.at + length span.bytes.items ≤ 2 ^ 64 = order_ends 0 spans i span o e in
     let f : ℕ → ℕ = λ k. word / 256 ^ k % 256 in
     let y : ℕ = x - span.at in
-    let written : ℕ = if nat_lt (offset_from at x) n then f (offset_from at x) else byte_of spans x in
+    let regs_with : ℕ = if nat_lt (offset_from at x) n then f (offset_from at x) else byte_of spans x in
     byte_written 0 spans i span new x o e same len
-    ∙ elim (spans_address span x) as (λ v. spans_address span x ≡ v → (if v then slice_index new.bytes.items y else byte_of spans x) ≡ written) [
+    ∙ elim (spans_address span x) as (λ v. spans_address span x ≡ v → (if v then slice_index new.bytes.items y else byte_of spans x) ≡ regs_with) [
       | true ↦ (λ t.
           let here = addressed_from span x t in
           let low : span.at ≤ x = here.0 in

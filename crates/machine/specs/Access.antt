@@ -13,7 +13,7 @@ use Rattle.machine.specs.declared.operands.Family.TheVariants.{Address, Popping,
 use Rattle.machine.specs.declared.state.Region.{Region}
 use Rattle.machine.specs.Family.{family_of}
 use Rattle.machine.specs.Machine.{Machine, offset_from, stack_base}
-use Rattle.machine.specs.Operands.{effective, operand}
+use Rattle.machine.specs.Operands.{effective_address, operand}
 
 -- some bytes from an address on, and whether they are written
 pub record Access : Type 0 where
@@ -44,7 +44,7 @@ width_at i k = if (k == 0) && nat_le 2 (arity i) then source_width i.op i.w else
 
 -- the access of an operand of w bits: none but of a memory operand
 abbrev pub access_of : Machine → Operand → ℕ → Bool → List Access
-access_of s (Mem base index scale disp) w write = record { at = effective s.regs base index scale disp; bytes = w / 8; write = write } ∷ []
+access_of s (Mem base index scale disp) w write = record { at = effective_address s.regs base index scale disp; bytes = w / 8; write = write } ∷ []
 access_of s _ w write = []
 
 -- operand k is written where it is the last one, and the operation writes

@@ -28,10 +28,10 @@ condition_of (ops.Set c) = Some c
 condition_of (ops.Jump c) = Some c
 condition_of _ = None
 
-abbrev pub held_by : Option Cond → Flags → Option Bool
-held_by None f = Some false
-held_by (Some c) f = cond_of c f
+abbrev pub value_of_condition : Option Cond → Flags → Option Bool
+value_of_condition None f = Some false
+value_of_condition (Some c) f = cond_of c f
 
 -- the condition's value, None where a flag that it reads is unset; an operation that reads none has any
 abbrev pub holds_of : Op → Flags → Option Bool
-holds_of op f = held_by (condition_of op) f
+holds_of op f = value_of_condition (condition_of op) f

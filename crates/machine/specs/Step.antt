@@ -26,25 +26,25 @@ use Rattle.runs.specs.Run.{Step, Goes, Returns, Faults, MeetsUnset, guarded, tes
 -- The operands of a row by their number: of one operand it is the destination; of two the second is the destination and
 -- the first the source; of three the third is written with what the second and the first give. `cltq` has none and is
 -- from EAX to RAX.
-abbrev pub target_of : Op → Insn → Operand
-target_of ops.Cltq i = Reg 0 64
-target_of _ i = operand i (arity i - 1)
+abbrev pub target_operand : Op → Insn → Operand
+target_operand ops.Cltq i = Reg 0 64
+target_operand _ i = operand i (arity i - 1)
 
-abbrev pub destination_of : Op → Insn → Operand
-destination_of ops.Cltq i = Reg 0 64
-destination_of _ i = if arity i == 1 then operand i 0 else operand i 1
+abbrev pub destination_operand : Op → Insn → Operand
+destination_operand ops.Cltq i = Reg 0 64
+destination_operand _ i = if arity i == 1 then operand i 0 else operand i 1
 
-abbrev pub source_of : Op → Insn → Operand
-source_of ops.Cltq i = Reg 0 32
-source_of _ i = operand i 0
+abbrev pub source_operand : Op → Insn → Operand
+source_operand ops.Cltq i = Reg 0 32
+source_operand _ i = operand i 0
 
 -- what the source gives: its value at the source's width, of `lea` its address
 abbrev pub source_value : List ℕ → Op → Insn → Machine → ℕ
 source_value pool ops.Lea i s = address_of s.regs (operand i 0)
-source_value pool op i s = value_of pool (source_width op i.w) s (source_of op i)
+source_value pool op i s = value_of pool (source_width op i.w) s (source_operand op i)
 
 abbrev pub destination_value : List ℕ → Insn → Machine → ℕ
-destination_value pool i s = value_of pool i.w s (destination_of i.op i)
+destination_value pool i s = value_of pool i.w s (destination_operand i.op i)
 
 -- the leaves of a row: destination, source, condition
 abbrev pub row_leaves : ℕ → ℕ → ℕ → ℕ → ℕ
@@ -59,7 +59,7 @@ result_of pool i s cond =
 
 -- the state after a row's result
 abbrev pub with_result : List ℕ → Insn → Machine → ℕ → Machine
-with_result pool i s cond = if writes i.op then with_value i.w s (target_of i.op i) (result_of pool i s cond) else s
+with_result pool i s cond = if writes i.op then with_value i.w s (target_operand i.op i) (result_of pool i s cond) else s
 
 -- the state after a row
 abbrev pub after_row : List ℕ → Insn → Machine → ℕ → Machine
@@ -79,8 +79,8 @@ register_number (Reg n w) = n
 register_number _ = 0
 
 -- PUSH stores the old value, also of the stack pointer itself
-abbrev pub pushed : Insn → Machine → Machine
-pushed i s =
+abbrev pub after_push : Insn → Machine → Machine
+after_push i s =
     let below = offset_from 8 (stack_pointer s) in
     record s {
       regs = slice_set s.regs 4 below;
@@ -88,22 +88,22 @@ pushed i s =
     }
 
 -- POP into the stack pointer leaves the value read
-abbrev pub popped : Insn → Machine → Machine
-popped i s =
+abbrev pub after_pop : Insn → Machine → Machine
+after_pop i s =
     let above = address_plus (stack_pointer s) 8 in
     record s { regs = slice_set (slice_set s.regs 4 above) (register_number (operand i 0)) (word_at s.memory (stack_pointer s) 8) }
 
 -- how an instruction of a family changes registers, flags and memory, where its condition, if it reads one, has this value
-abbrev pub changed : Family → List ℕ → Insn → Machine → Bool → Machine
-changed Pushing pool i s holds = pushed i s
-changed Popping pool i s holds = popped i s
-changed Branch pool i s holds = s
-changed Jump pool i s holds = s
-changed Return pool i s holds = s
-changed Idle pool i s holds = s
-changed Choice pool i s holds = after_row pool i s (bit holds)
-changed Setting pool i s holds = after_row pool i s (bit holds)
-changed _ pool i s holds = after_row pool i s 0
+abbrev pub after_change : Family → List ℕ → Insn → Machine → Bool → Machine
+after_change Pushing pool i s holds = after_push i s
+after_change Popping pool i s holds = after_pop i s
+after_change Branch pool i s holds = s
+after_change Jump pool i s holds = s
+after_change Return pool i s holds = s
+after_change Idle pool i s holds = s
+after_change Choice pool i s holds = after_row pool i s (bit holds)
+after_change Setting pool i s holds = after_row pool i s (bit holds)
+after_change _ pool i s holds = after_row pool i s 0
 
 -- where an instruction of a family at a place leads, where its condition has this value: None where it returns
 abbrev pub leads_to : Family → Insn → ℕ → Bool → Option ℕ
@@ -113,21 +113,21 @@ leads_to Return i place holds = None
 leads_to _ i place holds = Some (place + 1)
 
 -- the changed state at the place that is led to
-abbrev pub gone : Option ℕ → Machine → Step Machine
-gone None s = Returns
-gone (Some place) s = Goes (at_place s place)
+abbrev pub step_to : Option ℕ → Machine → Step Machine
+step_to None s = Returns
+step_to (Some place) s = Goes (at_place s place)
 
 abbrev pub goes : Family → List ℕ → Insn → Machine → Bool → Step Machine
-goes kind pool i s holds = gone (leads_to kind i s.place holds) (changed kind pool i s holds)
+goes kind pool i s holds = step_to (leads_to kind i s.place holds) (after_change kind pool i s holds)
 
 -- what follows a condition's value; a flag that is unset is met
-abbrev pub conditional : Option Bool → (Bool → Step Machine) → Step Machine
-conditional None goes = MeetsUnset
-conditional (Some holds) goes = goes holds
+abbrev pub step_where_known : Option Bool → (Bool → Step Machine) → Step Machine
+step_where_known None goes = MeetsUnset
+step_where_known (Some holds) goes = goes holds
 
 -- the free step of an instruction, which takes every test as met
 abbrev pub free_insn : List ℕ → Insn → Machine → Step Machine
-free_insn pool i s = conditional (holds_of i.op s.flags) (goes (family_of i.op) pool i s)
+free_insn pool i s = step_where_known (holds_of i.op s.flags) (goes (family_of i.op) pool i s)
 
 -- the instruction at the state's place; a place outside of the function faults
 abbrev pub free_at : List ℕ → Option Insn → Machine → Step Machine

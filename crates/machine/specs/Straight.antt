@@ -21,20 +21,20 @@ value_at regs (Imm v) = v
 value_at regs _ = 0
 
 -- the registers after a write to a register of 64 bits
-abbrev pub written : List ℕ → Operand → ℕ → List ℕ
-written regs (Reg n w) v = slice_set regs n v
-written regs _ v = regs
+abbrev pub regs_with : List ℕ → Operand → ℕ → List ℕ
+regs_with regs (Reg n w) v = slice_set regs n v
+regs_with regs _ v = regs
 
 -- what a move, sum or difference makes of the target's old value and the source, modulo 2^64
-abbrev pub computed : Op → ℕ → ℕ → ℕ
-computed Mov old value = value
-computed Add old value = (old + value) % 2 ^ 64
-computed Sub old value = (old + (2 ^ 64 - value)) % 2 ^ 64
-computed _ old value = old
+abbrev pub plain_result : Op → ℕ → ℕ → ℕ
+plain_result Mov old value = value
+plain_result Add old value = (old + value) % 2 ^ 64
+plain_result Sub old value = (old + (2 ^ 64 - value)) % 2 ^ 64
+plain_result _ old value = old
 
 -- the registers after a plain move
 abbrev pub regs_after : Insn → List ℕ → List ℕ
-regs_after i regs = written regs (operand i 1) (computed i.op (value_at regs (operand i 1)) (value_at regs (operand i 0)))
+regs_after i regs = regs_with regs (operand i 1) (plain_result i.op (value_at regs (operand i 1)) (value_at regs (operand i 0)))
 
 -- the registers after these moves
 abbrev pub regs_through : List Insn → List ℕ → List ℕ

@@ -1,3 +1,4 @@
+//! Laws of steps, runs and memory, as contracts of functions that do nothing.
 ghost use Rattle.std.specs.Prelude.{◌≡◌, ℕ, ◌+◌, ◌*◌, ◌%◌, ◌^◌, ◌<◌, ◌≤◌, true, false, List, Option, length, max, slice_index};
 ghost use Rattle.insn_table.specs.declared.insn.Insn.{Insn};
 ghost use Rattle.insn_table.specs.Plain.{IsPlain};
@@ -77,9 +78,11 @@ pub fn memory_law()
     ensures number { (n word : ℕ) → number_of_bytes (bytes_of_number n word) ≡ word % 256 ^ n }
 {}
 
-/// The law of what a step and a run leave as it was: the entry registers, the regions, the stack
-/// range and the vectors; and, in a closed function, each byte of the memory that neither lies in a
-/// region that may be written nor among the declared stack bytes. It does nothing.
+/// The law of what a step and a run leave as it was, with any instructions and pool: the entry
+/// registers, the regions, the stack range and the vectors, under the tests and also freely. In a
+/// closed function a step and a run under the tests, and a free step whose tests hold, leave each byte
+/// of the memory that neither lies in a region that may be written nor among the declared stack bytes.
+/// It does nothing.
 pub fn step_frame_law()
     ensures step { (insns : List Insn) (pool : List ℕ) (s t : Machine) → step_of insns pool s ≡ Goes t → SameFrame s t }
     ensures step_memory { (insns : List Insn) (pool : List ℕ) (s t : Machine) → IsClosed insns → step_of insns pool s ≡ Goes t
@@ -87,13 +90,21 @@ pub fn step_frame_law()
     ensures run { (insns : List Insn) (pool : List ℕ) (s : Machine) (n : ℕ) → SameFrame s (run_of (step_of insns pool) s n).0 }
     ensures run_memory { (insns : List Insn) (pool : List ℕ) (s : Machine) (n : ℕ) → IsClosed insns
         → SameUnwritable s (run_of (step_of insns pool) s n).0 }
+    ensures free_step { (insns : List Insn) (pool : List ℕ) (s t : Machine) → free_step insns pool s ≡ Goes t → SameFrame s t }
+    ensures free_step_memory { (insns : List Insn) (pool : List ℕ) (s t : Machine) → IsClosed insns
+        → allows_step insns s ≡ true → free_step insns pool s ≡ Goes t → SameUnwritable s t }
+    ensures free_run { (insns : List Insn) (pool : List ℕ) (s : Machine) (n : ℕ) → SameFrame s (run_of (free_step insns pool) s n).0 }
 {}
 
 /// The law that a step and a run of a closed function, whose pool holds bytes, keep the values of a
-/// state in their ranges. It does nothing.
+/// state in their ranges, under the tests and also freely. It does nothing.
 pub fn state_law()
     ensures step { (insns : List Insn) (pool : List ℕ) (s t : Machine) → IsClosed insns → ((at : ℕ) → slice_index pool at < 256)
         → IsState s → step_of insns pool s ≡ Goes t → IsState t }
     ensures run { (insns : List Insn) (pool : List ℕ) (s : Machine) (n : ℕ) → IsClosed insns → ((at : ℕ) → slice_index pool at < 256)
         → IsState s → IsState (run_of (step_of insns pool) s n).0 }
+    ensures free_step { (insns : List Insn) (pool : List ℕ) (s t : Machine) → IsClosed insns → ((at : ℕ) → slice_index pool at < 256)
+        → IsState s → free_step insns pool s ≡ Goes t → IsState t }
+    ensures free_run { (insns : List Insn) (pool : List ℕ) (s : Machine) (n : ℕ) → IsClosed insns → ((at : ℕ) → slice_index pool at < 256)
+        → IsState s → IsState (run_of (free_step insns pool) s n).0 }
 {}

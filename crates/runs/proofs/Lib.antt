@@ -1,3 +1,4 @@
+pub mod Guarding
 pub mod Paths
 pub mod Returning
 pub mod RunEnds
