@@ -122,7 +122,10 @@ fn an_unset_flag_wins_over_a_fault(rt: HostRuntime) -> Result<(), Fail> {
     let choice = two(b"cmovne", AT_RCX, EAX);
     for statement in [choice, one(b"sete", AT_RCX)] {
         assert_eq!(rt; end_of(rt.alloc(), &[statement], 0, 0)?, RunEnd::Unset(1));
-        assert_eq!(rt; end_of(rt.alloc(), &[COMPARE, statement], 0, 0)?, RunEnd::Faulted(2));
+        assert_eq!(rt;
+            end_of(rt.alloc(), &[COMPARE, statement], 0, 0)?,
+            RunEnd::Faulted(2)
+        );
     }
     Ok(())
 }

@@ -80,7 +80,10 @@ fn the_first_difference(rt: HostRuntime) -> Result<(), Fail> {
         (0, 32, LAST, Some(Difference::Byte(LAST))),
     ] {
         let other = state(alloc, rax, place, at)?;
-        let both = (first_difference(&zero, &other), first_difference(&other, &zero));
+        let both = (
+            first_difference(&zero, &other),
+            first_difference(&other, &zero),
+        );
         assert_eq!(rt; both, (first, first));
     }
     Ok(())

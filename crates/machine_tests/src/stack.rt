@@ -19,7 +19,14 @@ const POP: Statement<'static> = Statement {
 };
 
 /// Two statements, the start's `%rax`, and then the end, the place, `%rsp` and `%rcx`.
-type Row = (Statement<'static>, Statement<'static>, u64, RunEnd, u64, u64);
+type Row = (
+    Statement<'static>,
+    Statement<'static>,
+    u64,
+    RunEnd,
+    u64,
+    u64,
+);
 
 fn rows() -> [Row; 8] {
     let rsp = register(RSP, 64);
@@ -61,7 +68,10 @@ fn pushes_and_pops_within_the_declared_bytes(rt: HostRuntime) -> Result<(), Fail
         ([POP, POP, POP], RunEnd::Faulted(1), 0, 8192, 0),
     ] {
         let (ended, seen) = outcome(rt.alloc(), &body, OLD, 0)?;
-        assert_eq!(rt; (ended, seen.place, seen.rsp, seen.rcx), (end, place, rsp, rcx));
+        assert_eq!(rt;
+            (ended, seen.place, seen.rsp, seen.rcx),
+            (end, place, rsp, rcx)
+        );
     }
     Ok(())
 }

@@ -2,7 +2,7 @@
 ghost use Rattle.std.specs.Prelude.{◌≡◌, IfOk};
 ghost use Rattle.insn_table.specs.Closed.{IsClosed};
 
-use crate::statements::{RAX, RCX, RSP, AT_RCX, one, register};
+use crate::statements::{AT_RCX, RAX, RCX, RSP, one, register};
 use crate::states::start;
 use align_base::Word;
 use insn_table::{Bytes, Function, FunctionBuilder, Operand, Statement};
@@ -108,10 +108,7 @@ fn a_constant_is_no_access(rt: HostRuntime) -> Result<(), Fail> {
 }
 
 /// Three single steps, and then a run, from the start state with 3 in `%rax`.
-fn repeated(
-    alloc: Global,
-    statement: Statement,
-) -> Result<([StepEnd; 3], RunEnd, Seen), Fail> {
+fn repeated(alloc: Global, statement: Statement) -> Result<([StepEnd; 3], RunEnd, Seen), Fail> {
     let f = function(alloc, &[statement])?;
     let mut state = start(alloc, 3, 0)?;
     let steps = [state.step(&f), state.step(&f), state.step(&f)];
@@ -168,7 +165,10 @@ fn a_copy_goes_on_by_itself(rt: HostRuntime) -> Result<(), Fail> {
         entry_rax: 3,
     };
     assert_eq!(rt; (seen_of(&state), seen_of(&copy)), (seen, seen));
-    assert_eq!(rt; (copy.byte(4096), copy.byte(4111), copy.entry(RCX)), (0x12, 0x11, 4096));
+    assert_eq!(rt;
+        (copy.byte(4096), copy.byte(4111), copy.entry(RCX)),
+        (0x12, 0x11, 4096)
+    );
     assert_eq!(rt; *copy.vec(15), Bytes32 { bytes: [0; 32] });
     assert_eq!(rt; copy.run(&f, 3), RunEnd::Running);
     assert_eq!(rt; (copy.place(), copy.byte(4096)), (1, 0x13));
