@@ -1,5 +1,5 @@
 -- A step keeps each value of a state in its range.
-use Rattle.std.proofs.Common.{◌≡◌, ℕ, zero, suc, ◌/◌, ◌%◌, ◌^◌, ◌<◌, nat_lt, Bool, true, false, inl, inr, List, length, Option, None, Some, slice_get, slice_index, slice_set, refl, sym, ◌∙◌, subst, if◌then◌else◌, arith, lit<}
+use Rattle.std.proofs.Common.{◌≡◌, ℕ, zero, suc, ◌/◌, ◌%◌, ◌^◌, ◌<◌, nat_lt, Bool, true, false, inl, inr, List, length, slice_index, slice_set, refl, sym, ◌∙◌, subst, arith, lit<}
 use Rattle.std.proofs.Math.ListN.{length-set}
 use Rattle.std.proofs.Math.Nat.{pow-suc}
 use Rattle.std.proofs.lemmas.Bool.{cond_both}
@@ -16,7 +16,7 @@ use Rattle.instruction_semantics.specs.Words.{bit}
 use Rattle.instruction_semantics.proofs.WordLaws.{computed_below}
 use Rattle.machine.specs.declared.operands.Family.{Family}
 use Rattle.machine.specs.declared.operands.Family.TheVariants.{Computing, Address, Choice, Setting, Branch, Jump, Pushing, Popping, Return, Idle}
-use Rattle.machine.specs.Access.{allows, source_width, stack_pointer, writes}
+use Rattle.machine.specs.Access.{source_width, stack_pointer, writes}
 use Rattle.machine.specs.Family.{family_of}
 use Rattle.machine.specs.Machine.{AreRegs, IsState, Machine, address_plus, offset_from}
 use Rattle.machine.specs.Memory.{with_word, word_at}

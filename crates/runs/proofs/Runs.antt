@@ -1,5 +1,5 @@
 -- Runs over states of any kind: a run that is over stays, and two runs of one start have one end.
-use Rattle.std.proofs.Common.{◌≡◌, ℕ, zero, suc, ◌+◌, ◌-◌, ◌<◌, ◌≤◌, refl, sym, ◌∙◌, ap, subst, add-zero, add-suc, add-one, add_comm, arith}
+use Rattle.std.proofs.Common.{◌≡◌, ℕ, zero, suc, ◌+◌, ◌-◌, ◌≤◌, refl, sym, ◌∙◌, ap, subst, add-zero, add-suc, add_comm, arith}
 use Rattle.runs.specs.Run.{Step, Goes, Returns, Faults, MeetsUnset, IsOver, Run, end_of, ended_by, later, run_of, stepped}
 use Rattle.runs.specs.declared.ends.RunEnd.{RunEnd}
 use Rattle.runs.specs.declared.ends.RunEnd.TheVariants.{Returned, Faulted, Unset, Running}
