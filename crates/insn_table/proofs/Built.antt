@@ -1,5 +1,5 @@
 -- What assembling and building check is so: registers and scales that there are, and closed functions.
-use Rattle.std.proofs.Common.{◌≡◌, ℕ, ◌-◌, ◌<◌, ◌==◌, Bool, true, false, ◌&&◌, ◌||◌, if◌then◌else◌, List, [], ◌∷◌, length, Option, Some, None, Ok, slice_get, is_some, ◌≤◌, IfSome, refl, subst, inl, inr, ⊎_elim, arith}
+use Rattle.std.proofs.Common.{◌≡◌, ℕ, zero, suc, ◌-◌, ◌<◌, ◌==◌, Bool, true, false, ◌&&◌, ◌||◌, if◌then◌else◌, List, [], ◌∷◌, length, Option, Some, None, Ok, slice_get, is_some, ◌≤◌, IfSome, refl, subst, inl, inr, ⊎_elim, arith}
 use Rattle.std.specs.List.{list_all, AllByRecursion}
 use Rattle.std.proofs.lemmas.Bool.Decides.{Decides-eqb, Decides-ltb, nat_tests}
 use Rattle.align_base.specs.declared.op.Op.{Op}
@@ -78,6 +78,10 @@ no_fault-passed false true true h = (refl, refl, refl)
 no_fault-passed false true false h = cc
 no_fault-passed false false c h = cc
 
+no_fault-found : (a b c : Bool) → a ≡ false → b ≡ true → c ≡ true
+    → (if a then Some Empty else if b then (if c then None else Some FallsOff) else Some TargetOutside) ≡ None
+no_fault-found a b c h k l = rw (h, k, l) refl
+
 above_zero : (n : ℕ) → (n == 0) ≡ false → 0 < n
 above_zero n h = grind (arith, nat_tests)
 
@@ -93,6 +97,41 @@ draft-closed insns draft none =
     closed_list insns (length insns) refl passes.some draft.few draft.table
     (all-pass (goes_inside (length insns)) (λ i. AllByRecursion (IsInside (length insns)) i.args) (λ i h. all-pass (is_inside (length insns)) (IsInside (length insns)) (inside-known (length insns)) i.args h) insns passes.inside)
     (λ i at. leaving-known i.op (subst (λ (o : Option Insn). leaves o ≡ true) at passes.last))
+
+-- a test that each item passes is passed by all
+all-from_each : {X : Type 0} (p : X → Bool) (xs : List X) → ((k : ℕ) (x : X) → slice_get xs k ≡ Some x → p x ≡ true) → list_all p xs ≡ true
+all-from_each p [] each = refl
+all-from_each p (x ∷ xs) each = rw (each zero x refl) (all-from_each p xs (λ k y at. each (suc k) y at))
+
+all-from_facts : {X : Type 0} (p : X → Bool) (P : X → Type 0) → ((x : X) → P x → p x ≡ true) → (xs : List X) → AllByRecursion P xs → list_all p xs ≡ true
+all-from_facts p P tests [] each = refl
+all-from_facts p P tests (x ∷ xs) each = rw (tests x each.0) (all-from_facts p P tests xs each.1)
+
+inside-tested : (n : ℕ) (a : Operand) → IsInside n a → is_inside n a ≡ true
+inside-tested n (Target place) h = (Decides-ltb place n).1 h
+inside-tested n _ h = refl
+
+leaving-tested : (op : Op) → IsLeaving op → is_leaving op ≡ true
+leaving-tested Ret h = refl
+leaving-tested Jmp h = refl
+leaving-tested _ h = absurd h
+
+last-leaves : (insns : List Insn) (k : ℕ) → k < length insns → ((i : Insn) → slice_get insns k ≡ Some i → IsLeaving i.op) → leaves (slice_get insns k) ≡ true
+last-leaves [] k h last = absurd (omega (arith, h))
+last-leaves (i ∷ is) zero h last = leaving-tested i.op (last i refl)
+last-leaves (i ∷ is) (suc k) h last = last-leaves is k (omega (arith, h)) (λ j at. last j at)
+
+-- in a closed function no fault is found
+pub closed-no_fault : (insns : List Insn) → IsClosed insns → fault_of insns ≡ None
+closed-no_fault [] closed = absurd (omega (arith, closed.some))
+closed-no_fault (i ∷ is) closed =
+    let insns : List Insn = i ∷ is in
+    let some : (length (i ∷ is) == 0) ≡ false = grind (arith, nat_tests) in
+    let inside : list_all (goes_inside (length (i ∷ is))) (i ∷ is) ≡ true =
+    all-from_each (goes_inside (length (i ∷ is))) (i ∷ is) (λ k j at.
+    all-from_facts (is_inside (length (i ∷ is))) (IsInside (length (i ∷ is))) (inside-tested (length (i ∷ is))) j.args (closed.targets k j at)) in
+    let ends : leaves (slice_get (i ∷ is) (length (i ∷ is) - 1)) ≡ true = last-leaves (i ∷ is) (length (i ∷ is) - 1) (omega (arith, closed.some)) closed.last in
+    no_fault-found (length (i ∷ is) == 0) (list_all (goes_inside (length (i ∷ is))) (i ∷ is)) (leaves (slice_get (i ∷ is) (length (i ∷ is) - 1))) some inside ends
 
 -- operands
 

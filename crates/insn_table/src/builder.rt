@@ -1,5 +1,5 @@
 //! Builds closed functions from mnemonics and operands.
-ghost use Rattle.std.specs.Prelude.{◌≡◌, ◌⊎◌, ◌<◌, ◌^◌, [], IfOk, IfErr, OnOk, OnErr, Ok, Err, length};
+ghost use Rattle.std.specs.Prelude.{◌≡◌, ◌⊎◌, ◌<◌, ◌^◌, [], IfOk, IfErr, IsOk, OnOk, OnErr, Ok, Err, length};
 ghost use Rattle.std.specs.Result.{result_err};
 ghost use Rattle.std.specs.List.{list_all};
 ghost use Rattle.insn_table.specs.Closed.{IsClosed};
@@ -65,7 +65,8 @@ impl FunctionBuilder {
     ) -> Result<(), BuildError>
         ensures ok { OnOk result (Appends self.old self.new (insn_behind self.old mnemonic.now args.now line)) }
         ensures err { OnErr result (self.new ≡ self.old) }
-        ensures refused { (e : BuildError) → insn_behind self.old mnemonic.now args.now line ≡ Err e → result ≡ Err e }
+        ensures refused { (e : BuildError) → insn_behind self.old mnemonic.now args.now line ≡ Err e
+            → result ≡ Err e }
         ensures only { IfErr result (λ e.
             (e ≡ BuildError.OutOfMemory) ⊎ (insn_behind self.old mnemonic.now args.now line ≡ Err e)) }
     {
@@ -81,6 +82,7 @@ impl FunctionBuilder {
     /// the faults that keep them from being one.
     pub fn finish(self, name: Word) -> Result<Function, BuildError>
         ensures fault { result_err result ≡ fault_of self }
+        ensures only { IsClosed self → IsOk result }
         ensures closed { IfOk result (λ f. IsClosed f.insns) }
         ensures insns { IfOk result (λ f. f.insns ≡ self) }
         ensures name { IfOk result (λ f. f.name ≡ name) }
