@@ -1,7 +1,9 @@
+//! The arithmetic of words of a width from 1 to 64 bits.
+
 ghost use Rattle.std.specs.Prelude.{◌≡◌, ◌-◌, ◌/◌, ◌%◌, ◌^◌, ◌<◌, ◌≤◌};
 ghost use Rattle.instruction_semantics.specs.Words.{plus, minus, times, complement, top, sign_extension, left_shift, right_shift, signed_shift};
 
-// The greatest word of `width` bits.
+/// The greatest word of `width` bits.
 fn mask(width: u32) -> u64
     requires { (0 < width) × (width < 65) }
     ensures { result ≡ 2 ^ width - 1 }
