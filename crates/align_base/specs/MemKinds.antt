@@ -18,21 +18,29 @@ use Rattle.align_base.specs.declared.sink.GiveFault.TheVariants as give
 abbrev pub is_listed : List ℕ → ℕ → Bool
 is_listed failing call = list_any (λ n. n == call) failing
 
--- the files of a shelf, and the numbers of its calls that fail
+-- the files of a shelf
 abbrev pub shelf_files : MemShelf → Files
 shelf_files s = s.files.items
 
+-- the numbers of its calls that fail
 abbrev pub shelf_failing : MemShelf → List ℕ
 shelf_failing s = s.failing.items
 
 -- what it is as a shelf: it tells
 abbrev pub shelf_account : MemShelf → ShelfAccount
-shelf_account s = record { holding = Some (first_held s.files.items); calls = s.calls; faults = s.faults; last_failed = s.last_failed; seen = s.seen }
+shelf_account s = record {
+  holding = Some (first_held s.files.items);
+  calls = s.calls;
+  faults = s.faults;
+  last_failed = s.last_failed;
+  seen = s.seen;
+}
 
--- what a sink was given, and the numbers of its calls that fail
+-- what a sink was given
 abbrev pub sink_text : MemSink → List ℕ
 sink_text s = s.text.items
 
+-- the numbers of its calls that fail
 abbrev pub sink_failing : MemSink → List ℕ
 sink_failing s = s.failing.items
 
@@ -40,10 +48,11 @@ sink_failing s = s.failing.items
 abbrev pub sink_account : MemSink → SinkAccount
 sink_account s = record { written = Some s.text.items; calls = s.calls; faults = s.faults }
 
--- the next call fails by its number
+-- the next call of a shelf fails by its number
 abbrev pub shelf_fails : MemShelf → Bool
 shelf_fails s = is_listed s.failing.items (count_after s.calls 1)
 
+-- the next call of a sink fails by its number
 abbrev pub sink_fails : MemSink → Bool
 sink_fails s = is_listed s.failing.items (count_after s.calls 1)
 

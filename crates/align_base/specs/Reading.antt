@@ -4,6 +4,7 @@ use Rattle.std.specs.Io.KnownBytes.{Consumes}
 use Rattle.align_base.specs.declared.whole.Reading.{Reading}
 use Rattle.align_base.specs.declared.whole.Reading.TheVariants.{Whole, Broken, Large, OutOfMemory}
 
+-- a whole file is within the limit, and of a large one more than the limit was read
 abbrev pub ReadWithin : ℕ → Reading → ℕ → Type 0
 ReadWithin limit (Whole bytes) seen = (length bytes.items ≤ limit) × (seen ≡ length bytes.items)
 ReadWithin limit Broken seen = Unit {0}

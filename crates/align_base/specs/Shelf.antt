@@ -1,6 +1,6 @@
 -- What a shelf of files holds and was asked for, and what its calls say of it. `told` is what it holds under each name,
 -- where it tells: an option of a function.
-use Rattle.std.specs.Prelude.{◌≡◌, ◌≢◌, ℕ, ◌+◌, ◌<◌, List, length, Option, Some, IfSome, Result, Ok, Err}
+use Rattle.std.specs.Prelude.{◌≡◌, ◌≢◌, ℕ, ◌+◌, ◌<◌, List, length, Option, Some, None, IfSome, Result, Ok, Err}
 use Rattle.align_base.specs.Causes.{Rose}
 use Rattle.align_base.specs.declared.shelf.Call.{Call}
 use Rattle.align_base.specs.declared.shelf.TakeFault.{TakeFault}
@@ -20,6 +20,10 @@ pub record ShelfAccount : Type 0 where
   pub faults : ℕ
   pub last_failed : Option Call
   pub seen : ℕ
+
+-- the account of a shelf that was just made
+abbrev pub new_account : Option Holding → ShelfAccount
+new_account told = record { holding = told; calls = 0; faults = 0; last_failed = None; seen = 0 }
 
 -- where the shelf tells, it holds these bytes under the name
 abbrev pub Holds : Option Holding → List ℕ → List ℕ → Type 0

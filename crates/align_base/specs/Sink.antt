@@ -10,6 +10,10 @@ pub record SinkAccount : Type 0 where
   pub calls : ℕ
   pub faults : ℕ
 
+-- the account of a sink that was just made
+abbrev pub new_sink_account : Option (List ℕ) → SinkAccount
+new_sink_account told = record { written = told; calls = 0; faults = 0 }
+
 -- all of the bytes were appended; a sink that doesn't tell still doesn't
 abbrev pub Appended : Option (List ℕ) → Option (List ℕ) → List ℕ → Type 0
 Appended before after bytes = MatchOption before (after ≡ None) (λ old. after ≡ Some (old ++ bytes))

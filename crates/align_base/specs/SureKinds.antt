@@ -12,7 +12,13 @@ sure_files s = s.files.items
 
 -- what it is as a shelf: it tells, holds every name and never failed
 abbrev pub sure_shelf_account : SureShelf → ShelfAccount
-sure_shelf_account s = record { holding = Some (λ name. Some (held_or_empty s.files.items name)); calls = s.calls; faults = 0; last_failed = None; seen = s.seen }
+sure_shelf_account s = record {
+  holding = Some (λ name. Some (held_or_empty s.files.items name));
+  calls = s.calls;
+  faults = 0;
+  last_failed = None;
+  seen = s.seen;
+}
 
 -- what a sink was given
 abbrev pub sure_text : SureSink → List ℕ

@@ -1,6 +1,7 @@
 //! The files of the working folder.
 ghost use Rattle.std.specs.Prelude.{◌≡◌, None};
 ghost use Rattle.align_base.specs.Reading.{ReadWithin};
+ghost use Rattle.align_base.specs.Shelf.{new_account};
 
 use crate::shelf::{Call, PutFault, Shelf, TakeFault};
 use crate::whole::{Reading, read_whole, write_whole};
@@ -23,7 +24,7 @@ pub struct FolderShelf<'a, R: Files> {
 impl<'a, R: Files> FolderShelf<'a, R> {
     /// The working folder.
     pub fn new(rt: &'a R) -> FolderShelf<'a, R>
-        ensures account { ⟦<FolderShelf<'a, R> as Shelf>⟧.account result ≡ record { holding = None; calls = 0; faults = 0; last_failed = None; seen = 0 } }
+        ensures account { ⟦<FolderShelf<'a, R> as Shelf>⟧.account result ≡ new_account None }
     {
         FolderShelf {
             rt,

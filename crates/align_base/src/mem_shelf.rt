@@ -2,7 +2,7 @@
 ghost use Rattle.std.specs.Prelude.{◌≡◌, ◌≤◌, length, Option, Some, None, option_map, IfOk, OnOk, IsErrOf};
 ghost use Rattle.align_base.specs.Causes.{count_after};
 ghost use Rattle.align_base.specs.Files.{first_held};
-ghost use Rattle.align_base.specs.Shelf.{Holds, IfLarge, OthersStay, PutCause, TakeCause};
+ghost use Rattle.align_base.specs.Shelf.{Holds, IfLarge, OthersStay, PutCause, TakeCause, new_account};
 ghost use Rattle.align_base.specs.declared.shelf.Call.{Call};
 
 use crate::files::{copied_within, first_held, put_first};
@@ -32,7 +32,7 @@ impl MemShelf {
         ensures failing { shelf_failing result ≡ failing.items }
 
         // What it is as a shelf.
-        ensures account { ⟦<MemShelf as Shelf>⟧.account result ≡ record { holding = Some (first_held files.items); calls = 0; faults = 0; last_failed = None; seen = 0 } }
+        ensures account { ⟦<MemShelf as Shelf>⟧.account result ≡ new_account (Some (first_held files.items)) }
     {
         MemShelf {
             files,

@@ -1,7 +1,7 @@
 //! A sink in memory whose calls fail by their numbers.
 ghost use Rattle.std.specs.Prelude.{◌≡◌, ◌≤◌, [], Some, IsErrOf};
 ghost use Rattle.align_base.specs.Causes.{count_after};
-ghost use Rattle.align_base.specs.Sink.{GiveTells};
+ghost use Rattle.align_base.specs.Sink.{GiveTells, new_sink_account};
 
 use crate::sink::{GiveFault, Sink};
 use std::alloc::Global;
@@ -25,7 +25,7 @@ impl MemSink {
         ensures failing { sink_failing result ≡ failing.items }
 
         // What it is as a sink.
-        ensures account { ⟦<MemSink as Sink>⟧.account result ≡ record { written = Some []; calls = 0; faults = 0 } }
+        ensures account { ⟦<MemSink as Sink>⟧.account result ≡ new_sink_account (Some []) }
     {
         MemSink {
             text: Vec::new(alloc),

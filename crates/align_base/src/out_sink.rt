@@ -1,7 +1,7 @@
 //! Standard output.
 ghost use Rattle.std.specs.Prelude.{◌≡◌, ◌≤◌, None, IsErrOf};
 ghost use Rattle.align_base.specs.Causes.{count_after};
-ghost use Rattle.align_base.specs.Sink.{GiveTells};
+ghost use Rattle.align_base.specs.Sink.{GiveTells, new_sink_account};
 
 use crate::sink::{GiveFault, Sink};
 use crate::whole::write_whole;
@@ -19,7 +19,7 @@ pub struct OutSink<'a, R: Print> {
 impl<'a, R: Print> OutSink<'a, R> {
     /// The standard output of this runtime.
     pub fn new(rt: &'a R) -> OutSink<'a, R>
-        ensures account { ⟦<OutSink<'a, R> as Sink>⟧.account result ≡ record { written = None; calls = 0; faults = 0 } }
+        ensures account { ⟦<OutSink<'a, R> as Sink>⟧.account result ≡ new_sink_account None }
     {
         OutSink {
             rt,

@@ -1,6 +1,7 @@
 //! A shelf in memory that never fails.
 ghost use Rattle.std.specs.Prelude.{◌≡◌, Some, None, option_map};
 ghost use Rattle.align_base.specs.Files.{held_or_empty};
+ghost use Rattle.align_base.specs.Shelf.{new_account};
 
 use crate::files::{copied_within, first_held, put_first};
 use crate::shelf::{PutFault, Shelf, TakeFault};
@@ -24,7 +25,8 @@ impl SureShelf {
         ensures files { sure_files result ≡ files.items }
 
         // What it is as a shelf.
-        ensures account { ⟦<SureShelf as Shelf>⟧.account result ≡ record { holding = Some (λ name. Some (held_or_empty files.items name)); calls = 0; faults = 0; last_failed = None; seen = 0 } }
+        ensures account { ⟦<SureShelf as Shelf>⟧.account result
+            ≡ new_account (Some (λ name. Some (held_or_empty files.items name))) }
     {
         SureShelf {
             files,

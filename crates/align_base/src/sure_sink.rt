@@ -1,5 +1,6 @@
 //! A sink in memory that never fails.
 ghost use Rattle.std.specs.Prelude.{◌≡◌, [], Some};
+ghost use Rattle.align_base.specs.Sink.{new_sink_account};
 
 use crate::sink::{GiveFault, Sink};
 use std::alloc::Global;
@@ -19,7 +20,7 @@ impl SureSink {
         ensures text { sure_text result ≡ [] }
 
         // What it is as a sink.
-        ensures account { ⟦<SureSink as Sink>⟧.account result ≡ record { written = Some []; calls = 0; faults = 0 } }
+        ensures account { ⟦<SureSink as Sink>⟧.account result ≡ new_sink_account (Some []) }
     {
         SureSink {
             text: Vec::new(alloc),

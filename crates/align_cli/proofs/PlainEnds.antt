@@ -29,13 +29,14 @@ more-so-far insns n d after low so plain returns = record {
   some = λ e. (n, get_or insns n d, omega arith, there, returns.0 e);
   none = λ e k i h is ret. ⊎_elim {C = ⊥}
       (λ at. let same : get_or insns n d ≡ i = (let a : slice_get insns n ≡ Some i = subst (λ j. slice_get insns j ≡ Some i) at is in let b = there in cc) in
-        let t : after ≡ true = returns.1 (subst IsReturn (sym same) ret) in cc)
+      let t : after ≡ true = returns.1 (subst IsReturn (sym same) ret) in cc)
       (λ ne. so.none refl k i (omega arith) is ret)
       (cases_eq k n);
 }
   where
     there : slice_get insns n ≡ Some (get_or insns n d)
     there = slice_get-get_or insns n d low
+
     here : IsPlainAt insns n
     here = record { insn = get_or insns n d; there = there; plain = plain; unreturned = λ k i h is ret. so.none refl k i h is ret }
 
@@ -69,14 +70,14 @@ pub closed-plain : (insns : List Insn) → IsClosed insns → ((k : ℕ) → k <
 closed-plain insns closed each =
     let at = each (length insns - 1) (omega (arith, closed.some)) in
     let last_returns : IsReturn at.insn =
-        ⊎_elim {C = IsReturn at.insn} (λ move. absurd (move_stays at.insn.op move.op (closed.last at.insn at.there))) (λ ret. ret) at.plain in
+    ⊎_elim {C = IsReturn at.insn} (λ move. absurd (move_stays at.insn.op move.op (closed.last at.insn at.there))) (λ ret. ret) at.plain in
     parted insns closed.some
     (λ k i h is.
-      let here = each k (omega arith) in
-      let same : here.insn ≡ i = (let a = here.there in cc) in
-      ⊎_elim {C = IsPlainMove i} (λ move. subst IsPlainMove same move)
-      (λ ret. absurd (at.unreturned k i (omega arith) is (subst IsReturn same ret))) here.plain)
+    let here = each k (omega arith) in
+    let same : here.insn ≡ i = (let a = here.there in cc) in
+    ⊎_elim {C = IsPlainMove i} (λ move. subst IsPlainMove same move)
+    (λ ret. absurd (at.unreturned k i (omega arith) is (subst IsReturn same ret))) here.plain)
     (λ k i h is.
-      let e : k ≡ length insns - 1 = omega arith in
-      let same : at.insn ≡ i = (let a = at.there in let b : slice_get insns (length insns - 1) ≡ Some i = subst (λ j. slice_get insns j ≡ Some i) e is in cc) in
-      subst IsReturn same last_returns)
+    let e : k ≡ length insns - 1 = omega arith in
+    let same : at.insn ≡ i = (let a = at.there in let b : slice_get insns (length insns - 1) ≡ Some i = subst (λ j. slice_get insns j ≡ Some i) e is in cc) in
+    subst IsReturn same last_returns)

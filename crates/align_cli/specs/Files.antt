@@ -20,6 +20,7 @@ pub record File : Type 0 where
   pub name : List ℕ
   pub content : Content
 
+-- the file of a function
 abbrev pub function_file : Side → FunctionArguments → File
 function_file side arguments = record { name = arguments.file; content = FunctionText side arguments.name }
 

@@ -19,8 +19,10 @@ use Rattle.align_cli.specs.declared.functions.Taken.TheVariants.{Read, Refused}
 
 -- what a file gave: the function of its text, or the refusal
 abbrev pub TakenAs : Side → FunctionArguments → ShelfAccount → ShelfAccount → Taken → Type 0
-TakenAs side arguments before after (Read f) = HoldsFunction before.holding arguments f × IsPlain f.insns × (length f.insns < 2 ^ 32)
-TakenAs side arguments before after (Refused report) = RefusesFile before.holding after.seen (function_file side arguments) (string_bytes report)
+TakenAs side arguments before after (Read f) =
+    HoldsFunction before.holding arguments f × IsPlain f.insns × (length f.insns < 2 ^ 32)
+TakenAs side arguments before after (Refused report) =
+    RefusesFile before.holding after.seen (function_file side arguments) (string_bytes report)
 
 -- a take of this file that failed, or out of memory where none failed
 abbrev pub InterruptsTake : List ℕ → ShelfAccount → ShelfAccount → Interruption → Type 0

@@ -61,7 +61,8 @@ pub fn decided<F: Shelf>(
 ) -> Result<Answer, Interruption>
     ensures holding { (F.account shelf.new).holding ≡ (F.account shelf.old).holding }
     ensures takes { TakesAtMost (files_of (decide_view left.now right.now)) (F.account shelf.old) (F.account shelf.new) }
-    ensures ok { IfOk result (λ answer. TellsOf (decide_view left.now right.now) answer.status (F.account shelf.old) (F.account shelf.new) (string_bytes answer.text)) }
+    ensures ok { IfOk result (λ answer.
+        TellsOf (decide_view left.now right.now) answer.status (F.account shelf.old) (F.account shelf.new) (string_bytes answer.text)) }
     ensures none_failed { OnOk result (NoneFailed (F.account shelf.old) (F.account shelf.new)) }
     ensures err { IfErr result (Interrupts (decide_view left.now right.now) (F.account shelf.old) (F.account shelf.new)) }
 {

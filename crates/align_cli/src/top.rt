@@ -40,7 +40,8 @@ fn answer_of<F: Shelf>(
     ensures untouched { IsUsageError arguments.now → F.account shelf.new ≡ F.account shelf.old }
     ensures takes { (command : Command) → IsCommand arguments.now command
         → TakesAtMost (files_of command) (F.account shelf.old) (F.account shelf.new) }
-    ensures ok { IfOk result (λ answer. Tells arguments.now answer.status (F.account shelf.old) (F.account shelf.new) (string_bytes answer.text)) }
+    ensures ok { IfOk result (λ answer.
+        Tells arguments.now answer.status (F.account shelf.old) (F.account shelf.new) (string_bytes answer.text)) }
     ensures none_failed { OnOk result (NoneFailed (F.account shelf.old) (F.account shelf.new)) }
     ensures err { IfErr result (InterruptsArguments arguments.now (F.account shelf.old) (F.account shelf.new)) }
 {
