@@ -1,0 +1,10 @@
+//! Cuts a text into lines, labels and statements, and says why texts are refused.
+#![tactic(auto)]
+
+mod labels;
+mod refusal;
+mod words;
+
+pub use labels::Labels;
+pub use refusal::{ReadKind, ReadRefusal};
+pub use words::{is_blank, is_digit, is_name, is_name_byte, is_name_start, split_word, trim};
