@@ -1,0 +1,6 @@
+//! Reads single statements of GNU AT&T text.
+#![tactic(auto)]
+
+mod part;
+
+pub(crate) use part::Part;

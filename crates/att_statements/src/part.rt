@@ -1,0 +1,11 @@
+//! What is read of one operand.
+use insn_table::Operand;
+
+/// An operand, whether its number is out of the range of immediates, and whether it is a label that
+/// leads nowhere.
+#[derive(Clone, Copy, Debug, PartialEq, Eq)]
+pub(crate) struct Part {
+    pub operand: Operand,
+    pub beyond: bool,
+    pub lost: bool,
+}
