@@ -32,9 +32,13 @@ digits_of radix text = if length text == 0 then None else digits_from radix 0 te
 unfoldable pub decimal_of : List ℕ → Option ℕ
 decimal_of text = if nat_lt 1 (length text) && (slice_index text 0 == 48) then None else digits_of 10 text
 
+-- `0x` and a hexadecimal number
+unfoldable pub hexadecimal_of : List ℕ → Option ℕ
+hexadecimal_of text = after_byte 48 text >>= λ behind. (after_byte 120 behind >>= digits_of 16)
+
 -- a number without its sign
 unfoldable pub amount_of : List ℕ → Option ℕ
-amount_of text = option_or (after_byte 48 text >>= (λ x. after_byte 120 x >>= digits_of 16)) (decimal_of text)
+amount_of text = option_or (hexadecimal_of text) (decimal_of text)
 
 -- whether a number is negative, and its amount
 abbrev pub signed_by : Option (List ℕ) → List ℕ → Option (Bool × ℕ)
