@@ -1,1 +1,5 @@
 pub mod Prefixes
+pub mod Trimming
+pub mod LineItems
+pub mod TextLines
+pub mod TextItems

@@ -1,4 +1,7 @@
 pub mod Bytes
 pub mod Words
+pub mod Lines
+pub mod Texts
+pub mod Cutting
 pub mod Kinds
 pub mod Statements
