@@ -1,3 +1,5 @@
 pub mod NumberTexts
 pub mod RegisterTexts
 pub mod PartTexts
+pub mod MemoryTexts
+pub mod WrittenTexts

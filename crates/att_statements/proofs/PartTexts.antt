@@ -3,14 +3,16 @@ use Rattle.std.proofs.Common.{◌≡◌, ◌≢◌, ℕ, zero, suc, ◌+◌, ◌
 use Rattle.std.specs.List.{list_all}
 use Rattle.std.proofs.lemmas.Bool.{and_parts, and_from, and_cases, and_right, ltb-true, lt-ltb, eqb-true, eqb-false, ne_eqb, not-true}
 use Rattle.std.proofs.lemmas.Option.{same_Some}
-use Rattle.std.proofs.Math.Seq.{take-append_seam, get_or-append_seam}
+use Rattle.std.proofs.Math.Seq.{take-append_seam, get_or-append_seam, take-suc, take-length}
+use Rattle.text_lines.specs.Cutting.{onto_front, cut_at}
 use Rattle.att_statements.specs.Operands.{open_behind, open_after, IsUncut, AreParts, IsParenthesised}
-use Rattle.att_statements.specs.ReadingOperands.{◌>>=◌, onto_first, parts_from, onto_front, cut_at, before_byte, parenthesised}
+use Rattle.att_statements.specs.ReadingOperands.{◌>>=◌, onto_first, parts_from, before_byte, parenthesised}
 use Rattle.att_statements.proofs.NumberTexts.{bind_some, chosen_then, heads}
 
 -- commas
 
-tails : (a b : ℕ) (xs ys : List ℕ) → a ∷ xs ≡ b ∷ ys → xs ≡ ys
+-- and go on alike
+pub tails : (a b : ℕ) (xs ys : List ℕ) → a ∷ xs ≡ b ∷ ys → xs ≡ ys
 tails a b xs ys e = cc
 
 no_comma : (n : ℕ) → IsUncut n []
@@ -135,12 +137,16 @@ cut-none byte (b ∷ bs) h =
 
 -- the last byte
 last_off : (byte : ℕ) (text : List ℕ) → 0 < length text → get_or text (length text - 1) 0 ≡ byte → text ≡ take (length text - 1) text ++ byte ∷ []
-last_off byte text some is = ?
+last_off byte text some is =
+    let count : suc (length text - 1) ≡ length text = omega arith in
+    sym (ap (λ (k : ℕ). take k text) count ∙ take-length text)
+    ∙ take-suc text (length text - 1) 0 (omega arith)
+    ∙ ap (λ (b : ℕ). take (length text - 1) text ++ b ∷ []) is
 
 pub before_byte-known : (byte : ℕ) (text before : List ℕ) → before_byte byte text ≡ Some before → text ≡ before ++ byte ∷ []
 unfolding before_byte
 before_byte-known byte text before h =
-    let p = chosen_then (ltb 0 (length text) && eqb (get_or text (length text - 1) 0) byte) (take (length text - 1) text) before h in
+    let p = chosen_then (ltb 0 (length text) && eqb (get_or text (length text - 1) 0) byte) (Some (take (length text - 1) text)) before h in
     let tests = and_parts (ltb 0 (length text)) (eqb (get_or text (length text - 1) 0) byte) p.0 in
     last_off byte text (ltb-true 0 (length text) tests.0) (eqb-true (get_or text (length text - 1) 0) byte tests.1)
     ∙ ap (λ (xs : List ℕ). xs ++ byte ∷ []) (same_Some (take (length text - 1) text) before p.1)

@@ -122,6 +122,19 @@ registers-by w name n false false false false ea eb ec ed there = cc
 pub register-only : (w : ℕ) (name : List ℕ) (n : ℕ) → slice_get (register_names w) n ≡ Some name → register_named name ≡ Some (Reg n w)
 register-only w name n there = registers-by w name n (eqb w 64) (eqb w 32) (eqb w 16) (eqb w 8) refl refl refl refl there
 
+all-by : (p : List ℕ → Bool) (n : ℕ) (name : List ℕ) (a b c d : Bool) → list_all p (register_names 64) ≡ true → list_all p (register_names 32) ≡ true
+    → list_all p (register_names 16) ≡ true → list_all p (register_names 8) ≡ true → slice_get (names_by a b c d) n ≡ Some name → p name ≡ true
+all-by p n name true b c d h64 h32 h16 h8 there = list_all-at p (register_names 64) n name h64 there
+all-by p n name false true c d h64 h32 h16 h8 there = list_all-at p (register_names 32) n name h32 there
+all-by p n name false false true d h64 h32 h16 h8 there = list_all-at p (register_names 16) n name h16 there
+all-by p n name false false false true h64 h32 h16 h8 there = list_all-at p (register_names 8) n name h8 there
+all-by p n name false false false false h64 h32 h16 h8 there = cc
+
+-- what holds of the names of each width holds of a register's name
+pub all-names : (p : List ℕ → Bool) (w n : ℕ) (name : List ℕ) → list_all p (register_names 64) ≡ true → list_all p (register_names 32) ≡ true
+    → list_all p (register_names 16) ≡ true → list_all p (register_names 8) ≡ true → slice_get (register_names w) n ≡ Some name → p name ≡ true
+all-names p w n name h64 h32 h16 h8 there = all-by p n name (eqb w 64) (eqb w 32) (eqb w 16) (eqb w 8) h64 h32 h16 h8 there
+
 by-known : (w : ℕ) (name : List ℕ) (o : Operand) → register_by w name ≡ Some o → (n : ℕ) × (v : ℕ) × (slice_get (register_names v) n ≡ Some name) × (o ≡ Reg n v)
 by-known w name o h =
     let p = map_some (register_number w name) (λ (n : ℕ). Reg n w) o h in

@@ -5,6 +5,7 @@ use Rattle.insn_table.specs.declared.insn.Operand.{Operand}
 use Rattle.insn_table.specs.declared.insn.Operand.TheVariants.{Reg, Mem}
 use Rattle.text_lines.specs.Bytes.{is_name_byte}
 use Rattle.text_lines.specs.Words.{is_name, prefix_of, behind_prefix, trim}
+use Rattle.text_lines.specs.Cutting.{cut_at}
 use Rattle.att_statements.specs.Operands.{Written, Immediate, Label, Plain, digit_value, register_names, open_behind, integer}
 
 infixl 10 ◌>>=◌
@@ -80,16 +81,6 @@ parts_from n [] = [] ∷ []
 parts_from n (b ∷ bs) = if (b == 44) && (n == 0) then [] ∷ parts_from 0 bs else onto_first b (parts_from (open_behind n b) bs)
 
 -- memory
-
--- a byte before the first of two
-abbrev pub onto_front : ℕ → Option (List ℕ × List ℕ) → Option (List ℕ × List ℕ)
-onto_front b None = None
-onto_front b (Some parts) = Some (b ∷ parts.0, parts.1)
-
--- what stands before and behind the first such byte
-unfoldable pub cut_at : ℕ → List ℕ → Option (List ℕ × List ℕ)
-cut_at byte [] = None
-cut_at byte (b ∷ bs) = if b == byte then Some ([], bs) else onto_front b (cut_at byte bs)
 
 -- what stands before this last byte
 unfoldable pub before_byte : ℕ → List ℕ → Option (List ℕ)
