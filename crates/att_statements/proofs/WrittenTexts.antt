@@ -1,9 +1,9 @@
 -- What the code reads of operands, against what operands' texts say.
-use Rattle.std.proofs.Common.{◌≡◌, ◌≢◌, ℕ, ◌+◌, ◌-◌, ◌^◌, ◌<◌, ◌≤◌, ◌⊎◌, inl, inr, min, Bool, true, false, ◌&&◌, ◌||◌, cond, eqb, ltb, not, List, [], ◌∷◌, ◌++◌, length, Option, Some, None, is_some, slice_get, codes, refl, sym, ap, ◌∙◌, subst, arith, append-nil}
+use Rattle.std.proofs.Common.{◌≡◌, ◌≢◌, ℕ, ◌+◌, ◌-◌, ◌^◌, ◌<◌, ◌≤◌, ◌⊎◌, inl, inr, min, Bool, true, false, ◌&&◌, ◌||◌, cond, eqb, ltb, leb, not, ℤ, List, [], ◌∷◌, ◌++◌, length, Option, Some, None, is_some, slice_get, codes, refl, sym, ap, ◌∙◌, subst, arith, append-nil}
 use Rattle.std.specs.List.{list_all}
 use Rattle.std.specs.Option.{option_map}
 use Rattle.std.specs.Str.{bytes_eq}
-use Rattle.std.proofs.lemmas.Bool.{and_parts, and_from, or_cases, eqb-true, both_ways}
+use Rattle.std.proofs.lemmas.Bool.{and_parts, and_from, or_cases, eqb-true, ne_eqb, leb-true, lt-leb, ltb-true, both_ways}
 use Rattle.std.proofs.lemmas.Option.{same_Some}
 use Rattle.std.proofs.lemmas.Slice.Eq.{bytes_eq-Decides}
 use Rattle.insn_table.specs.declared.insn.Operand.{Operand}
@@ -13,7 +13,7 @@ use Rattle.text_lines.specs.Words.{IsName, is_name, IsPadded, prefix_of, behind_
 use Rattle.text_lines.proofs.Prefixes.{prefix-whole}
 use Rattle.text_lines.proofs.Trimming.{trim-known, trim-only, prefix-only}
 use Rattle.text_lines.proofs.LineItems.{name-known, name-only, name-bytes}
-use Rattle.att_statements.specs.Operands.{Written, Immediate, Label, Plain, digit_value, AreDigits, IsDecimal, IsHexadecimal, IsAmount, IsNumber, register_names, IsRegisterText, IsParenthesised, IsMemoryText, IsSymbol, IsPoolText, IsNumeral, IsLabelText, IsOperandText, IsOperandPart, IsPoolPart}
+use Rattle.att_statements.specs.Operands.{Written, Immediate, Label, Plain, digit_value, AreDigits, IsDecimal, IsHexadecimal, IsAmount, IsNumber, IsDisplacement, register_names, IsRegisterText, IsParenthesised, IsMemoryText, IsSymbol, IsPoolText, IsNumeral, IsLabelText, IsOperandText, IsOperandPart, IsPoolPart}
 use Rattle.att_statements.specs.ReadingOperands.{◌>>=◌, after_byte, digits_of, decimal_of, number_of, register_named, memory_of, parenthesised, is_offset, is_symbol, is_relative, is_pool_part, label_of, dollar_by, bare_by, written_by, written_of}
 use Rattle.att_statements.proofs.NumberTexts.{chosen_then, chosen_else, bind_some, map_some, never-some, after_byte-known, heads, are_digits, digits-known, digits-only, decimal-known, decimal-only, number-known, number-only}
 use Rattle.att_statements.proofs.RegisterTexts.{all-names, register-known, register-only}
@@ -236,3 +236,77 @@ written-only text (Plain o) (inr m) =
     let cut = parenthesised-only text m.before m.inside m.spelled in
     let some = memory-only text o m in
     rw (cut, some) refl
+
+-- symbols are no operands
+
+-- a decimal digit
+digit-range : (b : ℕ) (a c d : Bool) → (leb 48 b && leb b 57) ≡ a → (leb 97 b && leb b 102) ≡ c → (leb 65 b && leb b 70) ≡ d
+    → ltb (cond a (b - 48) (cond c (b - 87) (cond d (b - 55) 16))) 10 ≡ true → (48 ≤ b) × (b ≤ 57)
+digit-range b true c d ha hc hd low = let p = and_parts (leb 48 b) (leb b 57) ha in (leb-true 48 b p.0, leb-true b 57 p.1)
+digit-range b false true d ha hc hd low =
+    let p = and_parts (leb 97 b) (leb b 102) hc in absurd (omega (arith, leb-true 97 b p.0, ltb-true (b - 87) 10 low))
+digit-range b false false true ha hc hd low =
+    let p = and_parts (leb 65 b) (leb b 70) hd in absurd (omega (arith, leb-true 65 b p.0, ltb-true (b - 55) 10 low))
+digit-range b false false false ha hc hd low = cc
+
+digit-no_start : (b : ℕ) → ltb (digit_value b) 10 ≡ true → is_name_start b ≡ true → ⊥
+digit-no_start b low start =
+    let range = digit-range b (leb 48 b && leb b 57) (leb 97 b && leb b 102) (leb 65 b && leb b 70) refl refl refl low in
+    let upper : leb 65 b ≡ false = lt-leb 65 b (omega (arith, range.1)) in
+    let lower : leb 97 b ≡ false = lt-leb 97 b (omega (arith, range.1)) in
+    let line : eqb b 95 ≡ false = ne_eqb b 95 (λ e. omega (arith, range.1)) in
+    let dot : eqb b 46 ≡ false = ne_eqb b 46 (λ e. omega (arith, range.0)) in
+    let dollar : eqb b 36 ≡ false = ne_eqb b 36 (λ e. omega (arith, range.0)) in
+    let e = rw (upper, lower, line, dot, dollar) at start in cc
+
+-- a symbol begins as a name does
+name-start : (text : List ℕ) → IsName text → (b : ℕ) × (bs : List ℕ) × (text ≡ b ∷ bs) × (is_name_start b ≡ true)
+name-start [] named = absurd named
+name-start (b ∷ bs) named = (b, bs, refl, named.0)
+
+symbol-start : (text : List ℕ) → IsSymbol text → (b : ℕ) × (bs : List ℕ) × (text ≡ b ∷ bs) × (is_name_start b ≡ true)
+symbol-start text (inl named) = name-start text named
+symbol-start text (inr (name, sign, digits, n, is, named, signed, d)) =
+    let p = name-start name named in
+    (p.0, p.1 ++ sign ∷ digits, is ∙ ap (λ (xs : List ℕ). xs ++ sign ∷ digits) p.2, p.3)
+
+digits-first : (b : ℕ) (bs text : List ℕ) → text ≡ b ∷ bs → are_digits 10 text ≡ true → ltb (digit_value b) 10 ≡ true
+digits-first b bs text is h = let e = rw is at h in (and_parts (ltb (digit_value b) 10) (are_digits 10 bs) e).0
+
+amount-no_start : (b : ℕ) (bs text : List ℕ) (n : ℕ) → text ≡ b ∷ bs → is_name_start b ≡ true → IsAmount text n → ⊥
+amount-no_start b bs text n is start (inl d) = digit-no_start b (digits-first b bs text is d.digits.each) start
+amount-no_start b bs text n is start (inr d) =
+    let zero : b ≡ 48 = heads b 48 bs (120 ∷ d.behind) (sym is ∙ d.spelled) in let e = rw zero at start in cc
+
+number-no_start : (b : ℕ) (bs text : List ℕ) (negative : Bool) (n : ℕ) → text ≡ b ∷ bs → is_name_start b ≡ true → IsNumber text negative n → ⊥
+number-no_start b bs text false n is start a = amount-no_start b bs text n is start a
+number-no_start b bs text true n is start (amount, spelled, a) =
+    let minus : b ≡ 45 = heads b 45 bs amount (sym is ∙ spelled) in let e = rw minus at start in cc
+
+symbol-no_displacement : (text : List ℕ) (disp : ℤ) → IsSymbol text → IsDisplacement text disp → ⊥
+symbol-no_displacement text disp named (inl none) = let p = symbol-start text named in let e = sym p.2 ∙ none.0 in cc
+symbol-no_displacement text disp named (inr (negative, n, number, between, means)) =
+    let p = symbol-start text named in number-no_start p.0 p.1 text negative n p.2 p.3 number
+
+pool-no_plain : (text : List ℕ) (o : Operand) → IsPoolText text → IsMemoryText text o → ⊥
+pool-no_plain text o p m =
+    let same = sym (parenthesised-only text p.symbol p.inside p.spelled) ∙ parenthesised-only text m.before m.inside m.spelled in
+    let first : p.symbol ≡ m.before = ap (λ (x : List ℕ × List ℕ). x.0) (same_Some (p.symbol, p.inside) (m.before, m.inside) same) in
+    symbol-no_displacement m.before m.disp (subst IsSymbol first p.named) m.displaced
+
+pool-lacks : (text : List ℕ) → IsPoolText text → lacks 40 text ≡ true → ⊥
+pool-lacks text p none =
+    let cut = parenthesised-only text p.symbol p.inside p.spelled in
+    let no = parenthesised-none text none in cc
+
+pool-no_operand : (text : List ℕ) (w : Written) → IsPoolText text → IsOperandText text w → ⊥
+pool-no_operand text (Immediate negative n) p (number, is, a) = pool-lacks text p (rw is (number-bare number negative n a))
+pool-no_operand text (Label name) p (is, l) = pool-lacks text p (rw is (name-bare name l.named))
+pool-no_operand text (Plain o) p (inl (n, w, r, is)) = pool-lacks text p (rw r.spelled (register-bare w n r.name r.known))
+pool-no_operand text (Plain o) p (inr m) = pool-no_plain text o p m
+
+-- a symbol and `(%rip)` says nothing
+pub pool-says_nothing : (part : List ℕ) (w : Written) → IsPoolPart part → IsOperandPart part w → ⊥
+pool-says_nothing part w (text, padded, p) (other, around, says) =
+    let same : text ≡ other = sym (trim-only part text padded) ∙ trim-only part other around in
+    pool-no_operand other w (subst IsPoolText same p) says

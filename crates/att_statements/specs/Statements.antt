@@ -73,10 +73,13 @@ HasPlace L (Label name) = (place : ℕ) × L name place
 HasPlace L (Immediate negative n) = Unit {0}
 HasPlace L (Plain operand) = Unit {0}
 
+abbrev pub is_movabs : Op → Bool
+is_movabs Movabs = true
+is_movabs _ = false
+
 -- the greatest number that is written as an immediate: movabs takes words of 64 bits without a sign, too
 abbrev pub greatest_written : Op → ℕ
-greatest_written Movabs = 2 ^ 64 - 1
-greatest_written _ = 2 ^ 63 - 1
+greatest_written op = if is_movabs op then 2 ^ 64 - 1 else 2 ^ 63 - 1
 
 -- an immediate is one of 64 bits
 abbrev pub IsWithin : Op → Written → Type 0
