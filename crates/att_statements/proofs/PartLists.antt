@@ -206,19 +206,19 @@ none-parts target op n texts parts (inr many) h = let p = parts-known target op 
 
 -- what the operands stand for
 
-none-placed : {A : Type 0} (o : Option A) → o ≡ None → is_none o ≡ true
+pub none-placed : {A : Type 0} (o : Option A) → o ≡ None → is_none o ≡ true
 none-placed None h = refl
 none-placed (Some x) h = cc
 
-placed-none : {A : Type 0} (o : Option A) → is_none o ≡ true → o ≡ None
+pub placed-none : {A : Type 0} (o : Option A) → is_none o ≡ true → o ≡ None
 placed-none None h = refl
 placed-none (Some x) h = cc
 
 -- a name with no target has no place
-no-place : (target : List ℕ → Option ℕ) (L : List ℕ → ℕ → Type 0) (name : List ℕ) → FindsTargets target L → target name ≡ None → (place : ℕ) → L name place → ⊥
+pub no-place : (target : List ℕ → Option ℕ) (L : List ℕ → ℕ → Type 0) (name : List ℕ) → FindsTargets target L → target name ≡ None → (place : ℕ) → L name place → ⊥
 no-place target L name finds none place is = let some = finds.only name place is in cc
 
-no-target : (target : List ℕ → Option ℕ) (L : List ℕ → ℕ → Type 0) (name : List ℕ) (o : Option ℕ) → FindsTargets target L → target name ≡ o → ((place : ℕ) → L name place → ⊥) → o ≡ None
+pub no-target : (target : List ℕ → Option ℕ) (L : List ℕ → ℕ → Type 0) (name : List ℕ) (o : Option ℕ) → FindsTargets target L → target name ≡ o → ((place : ℕ) → L name place → ⊥) → o ≡ None
 no-target target L name None finds is none = refl
 no-target target L name (Some place) finds is none = absurd (none place (finds.known name place is))
 
@@ -277,7 +277,7 @@ written-count (text ∷ texts) (w ∷ ws) are = ap suc (written-count texts ws a
 -- numbers out of range, and labels that lead nowhere
 
 -- a test that no operand doesn't pass
-any-padded : (p : Part → Bool) (n : ℕ) (parts : List Part) → p no_part ≡ false → length parts ≤ n → list_any p (padded n parts) ≡ list_any p parts
+pub any-padded : (p : Part → Bool) (n : ℕ) (parts : List Part) → p no_part ≡ false → length parts ≤ n → list_any p (padded n parts) ≡ list_any p parts
 any-padded p zero [] none few = refl
 any-padded p zero (part ∷ parts) none few = absurd (omega arith)
 any-padded p (suc n) [] none few = let more = any-padded p n [] none (omega arith) in rw (none, more) refl
