@@ -2,7 +2,7 @@
 use Rattle.std.proofs.Common.{◌≡◌, ◌≢◌, ℕ, ◌+◌, ◌-◌, ◌<◌, ◌≤◌, ◌⊎◌, inl, inr, Bool, true, false, ◌&&◌, ◌||◌, cond, zero, suc, List, [], ◌∷◌, length, map, Option, Some, None, Result, Ok, Err, slice_get, codes, refl, sym, ap, ◌∙◌, subst, arith}
 use Rattle.std.specs.List.{list_all, list_any, find, AllByRecursion}
 use Rattle.std.specs.Str.{bytes_eq}
-use Rattle.std.proofs.lemmas.Bool.{and_parts, and_from, both_ways}
+use Rattle.std.proofs.lemmas.Bool.{and_parts, and_from, or_parts, both_ways}
 use Rattle.std.proofs.lemmas.Option.{same_Some}
 use Rattle.std.proofs.lemmas.Slice.Eq.{bytes_eq-Decides}
 use Rattle.align_base.specs.declared.op.Op.{Op}
@@ -20,7 +20,7 @@ use Rattle.text_lines.specs.Statements.{FindsTargets, IsStatement, Reads}
 use Rattle.text_lines.specs.declared.refusal.ReadKind.{ReadKind}
 use Rattle.text_lines.specs.declared.refusal.ReadKind.TheVariants.{UnknownInstruction, PoolRefused, BadOperand, BadNumber, UnknownLabel}
 use Rattle.text_lines.proofs.Trimming.{word-known, word-only, trim-known, trim-only}
-use Rattle.att_statements.specs.Operands.{Written, Label, AreParts, IsOperandPart, IsPoolPart}
+use Rattle.att_statements.specs.Operands.{Written, Immediate, Label, Plain, AreParts, IsOperandPart, IsPoolPart}
 use Rattle.att_statements.specs.Statements.{IsRepeatedReturn, IsReadAs, AreOperands, HasParts, AreWritten, StandFor, HasPlace, IsWithin, four, IsMade, IsInsnText, HasSuch, IsMisfit, HasWideNumber, HasNoOperands, IsLost, IsBadStatement}
 use Rattle.att_statements.specs.ReadingOperands.{parts_from, is_pool_part}
 use Rattle.att_statements.specs.ReadingStatements as reading
@@ -29,7 +29,7 @@ use Rattle.att_statements.specs.declared.part.Part.{Part}
 use Rattle.att_statements.proofs.PartTexts.{parts-known, parts-only}
 use Rattle.att_statements.proofs.WrittenTexts.{pool-known, pool-only, pool-says_nothing}
 use Rattle.att_statements.proofs.PartLists as lists
-use Rattle.att_statements.proofs.PartLists.{any-such, such-any, padded, all_parts, parts-read, none-parts, parts-none, operands_from, stand-known, stand-only, four-operands, written-count, any-padded, within-known, part-only, no-target, none-placed}
+use Rattle.att_statements.proofs.PartLists.{any-such, such-any, padded, all_parts, parts-read, none-parts, parts-none, operands_from, stand-known, stand-only, four-operands, written-count, any-padded, within-known, beyond-known, lost-known, placed-known, part-only, no-target, none-placed}
 
 -- a statement's mnemonic and its operands' texts
 
@@ -263,3 +263,283 @@ label-fact target L text shape parts finds row read (mnemonic, texts, has, such)
     let there = ap (λ (xs : List (List ℕ)). slice_get xs such.place) (has-only text mnemonic texts has).1 ∙ such.there in
     let lost = lost-at target L shape.op (texts_of text) m.0 such.place such.item finds m.4 there such.such in
     ap (list_any is_lost) m.2 ∙ any-part target shape.op is_lost m.0 refl m.5 ∙ lost
+
+-- what was answered is right
+
+-- the faults that come before this rank don't hold
+abbrev IsLeast : (List ℕ → ℕ → Type 0) → List ℕ → ℕ → Type 0
+IsLeast L text k = (other : ReadKind) → IsBadStatement L text other → k ≤ rank other
+
+least-pool : (L : List ℕ → ℕ → Type 0) (text : List ℕ) → (IsBadStatement L text UnknownInstruction → ⊥) → IsLeast L text 7
+least-pool L text unknown UnknownInstruction bad = absurd (unknown bad)
+least-pool L text unknown PoolRefused bad = omega arith
+least-pool L text unknown BadOperand bad = omega arith
+least-pool L text unknown BadNumber bad = omega arith
+least-pool L text unknown UnknownLabel bad = omega arith
+least-pool L text unknown _ bad = absurd bad
+
+least-operand : (L : List ℕ → ℕ → Type 0) (text : List ℕ) → (IsBadStatement L text UnknownInstruction → ⊥) → (IsBadStatement L text PoolRefused → ⊥) → IsLeast L text 8
+least-operand L text unknown pool UnknownInstruction bad = absurd (unknown bad)
+least-operand L text unknown pool PoolRefused bad = absurd (pool bad)
+least-operand L text unknown pool BadOperand bad = omega arith
+least-operand L text unknown pool BadNumber bad = omega arith
+least-operand L text unknown pool UnknownLabel bad = omega arith
+least-operand L text unknown pool _ bad = absurd bad
+
+least-number : (L : List ℕ → ℕ → Type 0) (text : List ℕ) → (IsBadStatement L text UnknownInstruction → ⊥) → (IsBadStatement L text PoolRefused → ⊥)
+    → (IsBadStatement L text BadOperand → ⊥) → IsLeast L text 9
+least-number L text unknown pool operand UnknownInstruction bad = absurd (unknown bad)
+least-number L text unknown pool operand PoolRefused bad = absurd (pool bad)
+least-number L text unknown pool operand BadOperand bad = absurd (operand bad)
+least-number L text unknown pool operand BadNumber bad = omega arith
+least-number L text unknown pool operand UnknownLabel bad = omega arith
+least-number L text unknown pool operand _ bad = absurd bad
+
+least-label : (L : List ℕ → ℕ → Type 0) (text : List ℕ) → (IsBadStatement L text UnknownInstruction → ⊥) → (IsBadStatement L text PoolRefused → ⊥)
+    → (IsBadStatement L text BadOperand → ⊥) → (IsBadStatement L text BadNumber → ⊥) → IsLeast L text 10
+least-label L text unknown pool operand number UnknownInstruction bad = absurd (unknown bad)
+least-label L text unknown pool operand number PoolRefused bad = absurd (pool bad)
+least-label L text unknown pool operand number BadOperand bad = absurd (operand bad)
+least-label L text unknown pool operand number BadNumber bad = absurd (number bad)
+least-label L text unknown pool operand number UnknownLabel bad = omega arith
+least-label L text unknown pool operand number _ bad = absurd bad
+
+none-bad : (L : List ℕ → ℕ → Type 0) (text : List ℕ) → (IsBadStatement L text UnknownInstruction → ⊥) → (IsBadStatement L text PoolRefused → ⊥)
+    → (IsBadStatement L text BadOperand → ⊥) → (IsBadStatement L text BadNumber → ⊥) → (IsBadStatement L text UnknownLabel → ⊥)
+    → (kind : ReadKind) → IsBadStatement L text kind → ⊥
+none-bad L text unknown pool operand number label UnknownInstruction bad = unknown bad
+none-bad L text unknown pool operand number label PoolRefused bad = pool bad
+none-bad L text unknown pool operand number label BadOperand bad = operand bad
+none-bad L text unknown pool operand number label BadNumber bad = number bad
+none-bad L text unknown pool operand number label UnknownLabel bad = label bad
+none-bad L text unknown pool operand number label _ bad = bad
+
+-- statements have faults of these ranks alone
+fault-range : (L : List ℕ → ℕ → Type 0) (text : List ℕ) (kind : ReadKind) → IsBadStatement L text kind → (6 ≤ rank kind) × (rank kind ≤ 10)
+fault-range L text UnknownInstruction bad = (omega arith, omega arith)
+fault-range L text PoolRefused bad = (omega arith, omega arith)
+fault-range L text BadOperand bad = (omega arith, omega arith)
+fault-range L text BadNumber bad = (omega arith, omega arith)
+fault-range L text UnknownLabel bad = (omega arith, omega arith)
+fault-range L text _ bad = absurd bad
+
+-- the answer is right
+abbrev IsRight : (List ℕ → ℕ → Type 0) → List ℕ → ℕ → Result Insn ReadKind → Type 0
+IsRight L text line r = IsStatement (IsBadStatement L) (IsInsnText L) text line r
+
+-- what is known where the mnemonic and the operands are
+record AreRead (target : List ℕ → Option ℕ) (L : List ℕ → ℕ → Type 0) (text : List ℕ) (shape : Shape) (parts : List Part) : Type 0 where
+  finds : FindsTargets target L
+  row : named general_rows (mnemonic_of text) ≡ Some shape
+  pool : list_any is_pool_part (texts_of text) ≡ false
+  read : parts_in target shape.op 4 (texts_of text) ≡ Some parts
+
+no-unknown : (L : List ℕ → ℕ → Type 0) (text : List ℕ) (shape : Shape) → named general_rows (mnemonic_of text) ≡ Some shape → IsBadStatement L text UnknownInstruction → ⊥
+no-unknown L text shape row bad = let none = unknown-fact L text bad in cc
+
+no-pool : (L : List ℕ → ℕ → Type 0) (text : List ℕ) → list_any is_pool_part (texts_of text) ≡ false → IsBadStatement L text PoolRefused → ⊥
+no-pool L text none bad = both_ways (list_any is_pool_part (texts_of text)) none (pool-fact L text bad)
+
+no-operand : (target : List ℕ → Option ℕ) (L : List ℕ → ℕ → Type 0) (text : List ℕ) (shape : Shape) (parts : List Part) (line : ℕ) → AreRead target L text shape parts
+    → (fits_of shape (args_of parts) line ≡ Err misfits.BadOperand → ⊥) → IsBadStatement L text BadOperand → ⊥
+no-operand target L text shape parts line r fits bad = fits (operand-fact target L text shape parts line r.finds r.row r.read bad)
+
+number-contrary : (target : List ℕ → Option ℕ) (L : List ℕ → ℕ → Type 0) (text : List ℕ) (shape : Shape) (parts : List Part) (line : ℕ) (i : Insn)
+    → fits_of shape (args_of parts) line ≡ Ok i → list_any is_wide parts ≡ false
+    → (fits_of shape (args_of parts) line ≡ Err misfits.BadNumber) ⊎ (list_any is_wide parts ≡ true) → ⊥
+number-contrary target L text shape parts line i fits none (inl e) = cc
+number-contrary target L text shape parts line i fits none (inr e) = both_ways (list_any is_wide parts) none e
+
+no-number : (target : List ℕ → Option ℕ) (L : List ℕ → ℕ → Type 0) (text : List ℕ) (shape : Shape) (parts : List Part) (line : ℕ) (i : Insn) → AreRead target L text shape parts
+    → fits_of shape (args_of parts) line ≡ Ok i → list_any is_wide parts ≡ false → IsBadStatement L text BadNumber → ⊥
+no-number target L text shape parts line i r fits none bad =
+    number-contrary target L text shape parts line i fits none (number-fact target L text shape parts line r.finds r.row r.read bad)
+
+-- each test of a list passes for all or fails for one
+all-within : (target : List ℕ → Option ℕ) (op : Op) (ws : List Written) → list_any (λ w. (part_of target op w).beyond) ws ≡ false → AllByRecursion (IsWithin op) ws
+all-within target op [] h = tt
+all-within target op (w ∷ ws) h =
+    let p = or_parts (part_of target op w).beyond (list_any (λ v. (part_of target op v).beyond) ws) h in
+    (within-known target op w p.0, all-within target op ws p.1)
+
+all-placed : (target : List ℕ → Option ℕ) (L : List ℕ → ℕ → Type 0) (op : Op) (ws : List Written) → FindsTargets target L
+    → list_any (λ w. (part_of target op w).lost) ws ≡ false → AllByRecursion (HasPlace L) ws
+all-placed target L op [] finds h = tt
+all-placed target L op (w ∷ ws) finds h =
+    let p = or_parts (part_of target op w).lost (list_any (λ v. (part_of target op v).lost) ws) h in
+    (placed-known target L op w finds p.0, all-placed target L op ws finds p.1)
+
+not-within : (target : List ℕ → Option ℕ) (op : Op) (w : Written) → IsWithin op w → (part_of target op w).beyond ≡ false
+not-within target op w within =
+    elim (part_of target op w).beyond as (λ t. (part_of target op w).beyond ≡ t → t ≡ false)
+    [ true ↦ λ e. absurd (beyond-known target op w e within) | false ↦ λ e. refl ] refl
+
+not-lost : (target : List ℕ → Option ℕ) (L : List ℕ → ℕ → Type 0) (op : Op) (w : Written) → FindsTargets target L → HasPlace L w → (part_of target op w).lost ≡ false
+not-lost target L op w finds placed =
+    elim (part_of target op w).lost as (λ t. (part_of target op w).lost ≡ t → t ≡ false)
+    [ true ↦ λ e. absurd (lost-known target L op w finds e placed) | false ↦ λ e. refl ] refl
+
+none-within : (target : List ℕ → Option ℕ) (op : Op) (ws : List Written) → AllByRecursion (IsWithin op) ws → list_any (λ w. (part_of target op w).beyond) ws ≡ false
+none-within target op [] all = refl
+none-within target op (w ∷ ws) all =
+    let first = not-within target op w all.0 in
+    let more = none-within target op ws all.1 in rw (first, more) refl
+
+none-lost : (target : List ℕ → Option ℕ) (L : List ℕ → ℕ → Type 0) (op : Op) (ws : List Written) → FindsTargets target L → AllByRecursion (HasPlace L) ws
+    → list_any (λ w. (part_of target op w).lost) ws ≡ false
+none-lost target L op [] finds all = refl
+none-lost target L op (w ∷ ws) finds all =
+    let first = not-lost target L op w finds all.0 in
+    let more = none-lost target L op ws finds all.1 in rw (first, more) refl
+
+-- a written label without a place is a lost part
+lost-one : (L : List ℕ → ℕ → Type 0) (text : List ℕ) (w : Written) → IsOperandPart text w → (HasPlace L w → ⊥) → IsLost L text
+lost-one L text (Immediate negative n) says lost = absurd (lost tt)
+lost-one L text (Label name) says lost = (name, says, λ place at. lost (place, at))
+lost-one L text (Plain operand) says lost = absurd (lost tt)
+
+lost-such : (L : List ℕ → ℕ → Type 0) (texts : List (List ℕ)) (ws : List Written) (k : ℕ) (w : Written) → AreWritten texts ws → slice_get ws k ≡ Some w
+    → (HasPlace L w → ⊥) → HasSuch (IsLost L) texts
+lost-such L [] [] k w are there lost = cc
+lost-such L [] (v ∷ ws) k w are there lost = absurd are
+lost-such L (text ∷ texts) [] k w are there lost = cc
+lost-such L (text ∷ texts) (v ∷ ws) zero w are there lost =
+    record { place = 0; item = text; there = refl; such = lost-one L text v are.0 (subst (λ (x : Written). HasPlace L x → ⊥) (sym (same_Some v w there)) lost) }
+lost-such L (text ∷ texts) (v ∷ ws) (suc k) w are there lost =
+    let later = lost-such L texts ws k w are.1 there lost in
+    record { place = suc later.place; item = later.item; there = later.there; such = later.such }
+
+-- the table takes the operands
+right-made : (target : List ℕ → Option ℕ) (L : List ℕ → ℕ → Type 0) (text : List ℕ) (line : ℕ) (shape : Shape) (parts : List Part) (i : Insn) (wide lost : Bool)
+    → AreRead target L text shape parts → fits_of shape (args_of parts) line ≡ Ok i → list_any is_wide parts ≡ wide → list_any is_lost parts ≡ lost
+    → IsRight L text line (cond wide (Err BadNumber) (cond lost (Err UnknownLabel) (Ok i)))
+right-made target L text line shape parts i true lost r fits is_true is =
+    let m = made-from target L text shape parts r.finds r.row r.read in
+    let any : list_any (λ w. (part_of target shape.op w).beyond) m.0 ≡ true =
+      sym (any-part target shape.op is_wide m.0 refl m.5) ∙ ap (list_any is_wide) (sym m.2) ∙ is_true in
+    let such = any-such (λ w. (part_of target shape.op w).beyond) (λ w. IsWithin shape.op w → ⊥) m.0 (beyond-known target shape.op) any in
+    (inr (record { shape = shape; written = m.0; operands = operands_from target shape.op m.0; made = m.1; beyond = such }),
+    least-number L text (no-unknown L text shape r.row) (no-pool L text r.pool) (no-operand target L text shape parts line r (λ e. cc)))
+right-made target L text line shape parts i false true r fits is_false is_true =
+    let m = made-from target L text shape parts r.finds r.row r.read in
+    let any : list_any (λ w. (part_of target shape.op w).lost) m.0 ≡ true =
+      sym (any-part target shape.op is_lost m.0 refl m.5) ∙ ap (list_any is_lost) (sym m.2) ∙ is_true in
+    let such = any-such (λ w. (part_of target shape.op w).lost) (λ w. HasPlace L w → ⊥) m.0 (λ w e. lost-known target L shape.op w r.finds e) any in
+    ((mnemonic_of text, texts_of text, has-known text, lost-such L (texts_of text) m.0 such.place such.item m.4 such.there such.such),
+    least-label L text (no-unknown L text shape r.row) (no-pool L text r.pool) (no-operand target L text shape parts line r (λ e. cc))
+      (λ bad. no-number target L text shape parts line i r fits is_false bad))
+right-made target L text line shape parts i false false r fits no_wide no_lost =
+    let m = made-from target L text shape parts r.finds r.row r.read in
+    let within : list_any (λ w. (part_of target shape.op w).beyond) m.0 ≡ false =
+      sym (any-part target shape.op is_wide m.0 refl m.5) ∙ ap (list_any is_wide) (sym m.2) ∙ no_wide in
+    let placed : list_any (λ w. (part_of target shape.op w).lost) m.0 ≡ false =
+      sym (any-part target shape.op is_lost m.0 refl m.5) ∙ ap (list_any is_lost) (sym m.2) ∙ no_lost in
+    (record {
+      shape = shape;
+      written = m.0;
+      operands = operands_from target shape.op m.0;
+      made = m.1;
+      within = all-within target shape.op m.0 within;
+      placed = all-placed target L shape.op m.0 r.finds placed;
+      fits = ap (λ (xs : List Operand). fits_of shape xs line) (sym m.3) ∙ fits;
+    },
+    none-bad L text (no-unknown L text shape r.row) (no-pool L text r.pool) (no-operand target L text shape parts line r (λ e. cc))
+      (λ bad. no-number target L text shape parts line i r fits no_wide bad)
+      (λ bad. both_ways (list_any is_lost parts) no_lost (label-fact target L text shape parts r.finds r.row r.read bad)))
+
+misfit-from : (target : List ℕ → Option ℕ) (L : List ℕ → ℕ → Type 0) (text : List ℕ) (line : ℕ) (shape : Shape) (parts : List Part) (misfit : Misfit)
+    → AreRead target L text shape parts → fits_of shape (args_of parts) line ≡ Err misfit → IsMisfit L text misfit
+misfit-from target L text line shape parts misfit r fits =
+    let m = made-from target L text shape parts r.finds r.row r.read in
+    record {
+      shape = shape;
+      written = m.0;
+      operands = operands_from target shape.op m.0;
+      made = m.1;
+      fails = ap (λ (xs : List Operand). fits_of shape xs 0) (sym m.3) ∙ misfit-line shape (args_of parts) line 0 misfit fits;
+    }
+
+right-judged : (target : List ℕ → Option ℕ) (L : List ℕ → ℕ → Type 0) (text : List ℕ) (line : ℕ) (shape : Shape) (parts : List Part) (judged : Result Insn Misfit)
+    → AreRead target L text shape parts → fits_of shape (args_of parts) line ≡ judged → IsRight L text line (reading.judged_by parts judged)
+right-judged target L text line shape parts (Ok i) r fits =
+    right-made target L text line shape parts i (list_any is_wide parts) (list_any is_lost parts) r fits refl refl
+right-judged target L text line shape parts (Err misfits.BadOperand) r fits =
+    (inr (misfit-from target L text line shape parts misfits.BadOperand r fits),
+    least-operand L text (no-unknown L text shape r.row) (no-pool L text r.pool))
+right-judged target L text line shape parts (Err misfits.BadNumber) r fits =
+    (inl (misfit-from target L text line shape parts misfits.BadNumber r fits),
+    least-number L text (no-unknown L text shape r.row) (no-pool L text r.pool) (no-operand target L text shape parts line r (λ e. cc)))
+
+right-fitted : (target : List ℕ → Option ℕ) (L : List ℕ → ℕ → Type 0) (text : List ℕ) (line : ℕ) (shape : Shape) (read : Option (List Part)) → FindsTargets target L
+    → named general_rows (mnemonic_of text) ≡ Some shape → list_any is_pool_part (texts_of text) ≡ false → parts_in target shape.op 4 (texts_of text) ≡ read
+    → IsRight L text line (fitted_by shape line read)
+right-fitted target L text line shape None finds row pool read =
+    (inl (mnemonic_of text, texts_of text, has-known text, parts-none target shape.op 4 (texts_of text) read),
+    least-operand L text (no-unknown L text shape row) (no-pool L text pool))
+right-fitted target L text line shape (Some parts) finds row pool read =
+    right-judged target L text line shape parts (fits_of shape (args_of parts) line) (record { finds = finds; row = row; pool = pool; read = read }) refl
+
+right-pool : (target : List ℕ → Option ℕ) (L : List ℕ → ℕ → Type 0) (text : List ℕ) (line : ℕ) (shape : Shape) (pool : Bool) → FindsTargets target L
+    → named general_rows (mnemonic_of text) ≡ Some shape → list_any is_pool_part (texts_of text) ≡ pool
+    → IsRight L text line (cond pool (Err PoolRefused) (fitted_by shape line (parts_in target shape.op 4 (texts_of text))))
+right-pool target L text line shape true finds row pool =
+    ((mnemonic_of text, texts_of text, has-known text, any-such is_pool_part IsPoolPart (texts_of text) pool-known pool),
+    least-pool L text (no-unknown L text shape row))
+right-pool target L text line shape false finds row pool =
+    right-fitted target L text line shape (parts_in target shape.op 4 (texts_of text)) finds row pool refl
+
+right-named : (target : List ℕ → Option ℕ) (L : List ℕ → ℕ → Type 0) (text : List ℕ) (line : ℕ) (row : Option Shape) → FindsTargets target L
+    → named general_rows (mnemonic_of text) ≡ row → IsRight L text line (insn_by target row (texts_of text) line)
+unfolding insn_with
+right-named target L text line None finds row =
+    ((mnemonic_of text, texts_of text, has-known text, row), λ other bad. (fault-range L text other bad).0)
+right-named target L text line (Some shape) finds row =
+    right-pool target L text line shape (list_any is_pool_part (texts_of text)) finds row refl
+
+-- what is answered of a statement is right
+pub statement-right : (target : List ℕ → Option ℕ) (L : List ℕ → ℕ → Type 0) (text : List ℕ) (line : ℕ) → FindsTargets target L → IsRight L text line (statement_of target text line)
+unfolding statement_of
+statement-right target L text line finds = right-named target L text line (named general_rows (mnemonic_of text)) finds refl
+
+-- no part of what is written is in a pool
+no-pool_part : (texts : List (List ℕ)) (ws : List Written) → AreWritten texts ws → list_any is_pool_part texts ≡ false
+no-pool_part [] [] are = refl
+no-pool_part [] (w ∷ ws) are = absurd are
+no-pool_part (text ∷ texts) [] are = absurd are
+no-pool_part (text ∷ texts) (w ∷ ws) are =
+    let more = no-pool_part texts ws are.1 in
+    elim (is_pool_part text) as (λ t. is_pool_part text ≡ t → (t || list_any is_pool_part texts) ≡ false)
+    [ true ↦ λ e. absurd (pool-says_nothing text w (pool-known text e) are.0) | false ↦ λ e. more ] refl
+
+-- the instruction of a statement is answered
+pub statement-only : (target : List ℕ → Option ℕ) (L : List ℕ → ℕ → Type 0) (text : List ℕ) (line : ℕ) (i : Insn) → FindsTargets target L → IsInsnText L text line i
+    → statement_of target text line ≡ Ok i
+unfolding statement_of insn_with
+statement-only target L text line i finds is =
+    let m = made-read target L text is.shape is.written is.operands finds is.made in
+    let has = has-only text is.made.mnemonic is.made.parts is.made.has in
+    let pool : list_any is_pool_part (texts_of text) ≡ false =
+      ap (list_any is_pool_part) has.1 ∙ no-pool_part is.made.parts is.written is.made.spelled in
+    let row : named general_rows (mnemonic_of text) ≡ Some is.shape = m.0 in
+    let read : parts_in target is.shape.op 4 (texts_of text) ≡ Some (padded 4 (all_parts target is.shape.op is.written)) = m.1 in
+    let fits : fits_of is.shape (args_of (padded 4 (all_parts target is.shape.op is.written))) line ≡ Ok i =
+      ap (λ (xs : List Operand). fits_of is.shape xs line) m.2 ∙ is.fits in
+    let wide : list_any is_wide (padded 4 (all_parts target is.shape.op is.written)) ≡ false =
+      any-part target is.shape.op is_wide is.written refl m.3 ∙ none-within target is.shape.op is.written is.within in
+    let lost : list_any is_lost (padded 4 (all_parts target is.shape.op is.written)) ≡ false =
+      any-part target is.shape.op is_lost is.written refl m.3 ∙ none-lost target L is.shape.op is.written finds is.placed in
+    ap (λ (o : Option Shape). insn_by target o (texts_of text) line) row
+    ∙ ap (λ (t : Bool). cond t (Err PoolRefused) (fitted_by is.shape line (parts_in target is.shape.op 4 (texts_of text)))) pool
+    ∙ ap (fitted_by is.shape line) read
+    ∙ ap (reading.judged_by (padded 4 (all_parts target is.shape.op is.written))) fits
+    ∙ ap (λ (t : Bool). cond t (Err BadNumber) (cond (list_any is_lost (padded 4 (all_parts target is.shape.op is.written))) (Err UnknownLabel) (Ok i))) wide
+    ∙ ap (λ (t : Bool). cond t (Err UnknownLabel) (Ok i)) lost
+
+-- the reader of statements, whatever the labels
+pub statements-read : (target : List ℕ → Option ℕ) (L : List ℕ → ℕ → Type 0) → FindsTargets target L → Reads (statement_of target) (IsBadStatement L) (IsInsnText L)
+statements-read target L finds =
+    record {
+      outcome = λ text line. statement-right target L text line finds;
+      only = λ text line i is. statement-only target L text line i finds is;
+      known = fault-range L;
+    }
