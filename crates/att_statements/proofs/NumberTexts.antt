@@ -52,14 +52,13 @@ grows radix n some = grind arith
 
 keeps_by : (radix n d t : ℕ) → 0 < radix → n ≤ t → t ≡ radix * n → min (radix * min n (2 ^ 64) + d) (2 ^ 64) ≡ min (t + d) (2 ^ 64)
 keeps_by radix n d t some grown is =
-    elim (leb n (2 ^ 64)) as (λ b. leb n (2 ^ 64) ≡ b → min (radix * min n (2 ^ 64) + d) (2 ^ 64) ≡ min (t + d) (2 ^ 64))
-    [
+    elim (leb n (2 ^ 64)) as (λ b. leb n (2 ^ 64) ≡ b → min (radix * min n (2 ^ 64) + d) (2 ^ 64) ≡ min (t + d) (2 ^ 64)) [
       | true ↦ λ e.
-        let low : min n (2 ^ 64) ≡ n = omega (arith, leb-true n (2 ^ 64) e) in
-        ap (λ (k : ℕ). min (radix * k + d) (2 ^ 64)) low ∙ ap (λ (k : ℕ). min (k + d) (2 ^ 64)) (sym is)
+          let low : min n (2 ^ 64) ≡ n = omega (arith, leb-true n (2 ^ 64) e) in
+          ap (λ (k : ℕ). min (radix * k + d) (2 ^ 64)) low ∙ ap (λ (k : ℕ). min (k + d) (2 ^ 64)) (sym is)
       | false ↦ λ e.
-        let high : min n (2 ^ 64) ≡ 2 ^ 64 = omega (arith, leb-false n (2 ^ 64) e) in
-        ap (λ (k : ℕ). min (radix * k + d) (2 ^ 64)) high ∙ omega (arith, leb-false n (2 ^ 64) e, grows radix (2 ^ 64) some)
+          let high : min n (2 ^ 64) ≡ 2 ^ 64 = omega (arith, leb-false n (2 ^ 64) e) in
+          ap (λ (k : ℕ). min (radix * k + d) (2 ^ 64)) high ∙ omega (arith, leb-false n (2 ^ 64) e, grows radix (2 ^ 64) some)
     ] refl
 
 -- a step of the kept number is a step of the number, kept
@@ -119,11 +118,10 @@ leading-known (b ∷ bs) h first =
 leading-only : (text : List ℕ) → (slice_get text 0 ≡ Some 48 → length text ≡ 1) → (ltb 1 (length text) && eqb (get_or text 0 0) 48) ≡ false
 leading-only [] h = refl
 leading-only (b ∷ bs) h =
-    elim (eqb b 48) as (λ t. eqb b 48 ≡ t → (ltb 1 (length (b ∷ bs)) && t) ≡ false)
-    [
+    elim (eqb b 48) as (λ t. eqb b 48 ≡ t → (ltb 1 (length (b ∷ bs)) && t) ≡ false) [
       | true ↦ λ e.
-        let one = h (ap (λ (x : ℕ). Some x) (eqb-true b 48 e)) in
-        let low : ltb 1 (length (b ∷ bs)) ≡ false = le-ltb 1 (length (b ∷ bs)) (omega arith) in rw low refl
+          let one = h (ap (λ (x : ℕ). Some x) (eqb-true b 48 e)) in
+          let low : ltb 1 (length (b ∷ bs)) ≡ false = le-ltb 1 (length (b ∷ bs)) (omega arith) in rw low refl
       | false ↦ λ e. and_right (ltb 1 (length (b ∷ bs))) false refl
     ] refl
 
@@ -169,8 +167,7 @@ decimal-no_hexadecimal text n d =
 pub amount-known : (text : List ℕ) (m : ℕ) → amount_of text ≡ Some m → (n : ℕ) × IsAmount text n × (m ≡ min n (2 ^ 64))
 unfolding amount_of
 amount-known text m h =
-    elim (or_some (hexadecimal_of text) (decimal_of text) m h)
-    [
+    elim (or_some (hexadecimal_of text) (decimal_of text) m h) [
       | inl e ↦ let p = hexadecimal-known text m e in (p.0, inr p.1, p.2)
       | inr e ↦ let p = decimal-known text m e.1 in (p.0, inl p.1, p.2)
     ]

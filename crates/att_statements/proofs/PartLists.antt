@@ -13,8 +13,8 @@ use Rattle.text_lines.specs.Words.{IsPadded, trim}
 use Rattle.text_lines.proofs.Trimming.{trim-known, trim-only}
 use Rattle.att_statements.specs.Operands.{Written, Immediate, Label, Plain, IsBetween, IsOperandText, IsOperandPart, IsPoolPart}
 use Rattle.att_statements.specs.Statements.{AreWritten, word_of, StandsFor, StandFor, HasPlace, greatest_written, is_movabs, IsWithin, four, HasSuch, HasNoOperands, IsLost}
-use Rattle.att_statements.specs.ReadingOperands.{◌>>=◌, written_of, is_pool_part}
-use Rattle.att_statements.specs.ReadingStatements.{is_beyond, no_part, part_of, part_in, next_part, parts_in}
+use Rattle.att_statements.specs.ReadingOperands.{◌>>=◌, are_none, written_of, is_pool_part}
+use Rattle.att_statements.specs.ReadingStatements.{is_beyond, no_part, part_of, part_in, next_part, parts_in, gathered, four_in}
 use Rattle.att_statements.specs.declared.part.Part.{Part}
 use Rattle.att_statements.proofs.NumberTexts.{bind_some, map_some}
 use Rattle.att_statements.proofs.WrittenTexts.{capped, written-known, written-only}
@@ -25,8 +25,7 @@ use Rattle.att_statements.proofs.WrittenTexts.{capped, written-known, written-on
 pub any-such : {X : Type 0} (p : X → Bool) (P : X → Type 0) (xs : List X) → ((x : X) → p x ≡ true → P x) → list_any p xs ≡ true → HasSuch P xs
 any-such p P [] h any = cc
 any-such p P (x ∷ xs) h any =
-    elim (or_cases (p x) (list_any p xs) any)
-    [
+    elim (or_cases (p x) (list_any p xs) any) [
       | inl e ↦ record { place = 0; item = x; there = refl; such = h x e }
       | inr e ↦ let later = any-such p P xs h e in record { place = suc later.place; item = later.item; there = later.there; such = later.such }
     ]
@@ -50,26 +49,23 @@ greatest-small op = elim (is_movabs op) as (λ t. cond t (2 ^ 64 - 1) (2 ^ 63 - 
 
 word-capped : (negative : Bool) (n : ℕ) → word_of negative (min n (2 ^ 64)) ≡ word_of negative n
 word-capped false n =
-    elim (ltb n (2 ^ 64)) as (λ t. ltb n (2 ^ 64) ≡ t → cond (ltb (min n (2 ^ 64)) (2 ^ 64)) (min n (2 ^ 64)) 0 ≡ cond t n 0)
-    [
+    elim (ltb n (2 ^ 64)) as (λ t. ltb n (2 ^ 64) ≡ t → cond (ltb (min n (2 ^ 64)) (2 ^ 64)) (min n (2 ^ 64)) 0 ≡ cond t n 0) [
       | true ↦ λ e.
-        let same : min n (2 ^ 64) ≡ n = omega (arith, ltb-true n (2 ^ 64) e) in rw (same, e) refl
+          let same : min n (2 ^ 64) ≡ n = omega (arith, ltb-true n (2 ^ 64) e) in rw (same, e) refl
       | false ↦ λ e.
-        let same : min n (2 ^ 64) ≡ 2 ^ 64 = omega (arith, ltb-false n (2 ^ 64) e) in rw same refl
+          let same : min n (2 ^ 64) ≡ 2 ^ 64 = omega (arith, ltb-false n (2 ^ 64) e) in rw same refl
     ] refl
 word-capped true n =
-    elim (leb n (2 ^ 63)) as (λ t. leb n (2 ^ 63) ≡ t → cond (leb (min n (2 ^ 64)) (2 ^ 63)) ((2 ^ 64 - min n (2 ^ 64)) % 2 ^ 64) 0 ≡ cond t ((2 ^ 64 - n) % 2 ^ 64) 0)
-    [
+    elim (leb n (2 ^ 63)) as (λ t. leb n (2 ^ 63) ≡ t → cond (leb (min n (2 ^ 64)) (2 ^ 63)) ((2 ^ 64 - min n (2 ^ 64)) % 2 ^ 64) 0 ≡ cond t ((2 ^ 64 - n) % 2 ^ 64) 0) [
       | true ↦ λ e.
-        let same : min n (2 ^ 64) ≡ n = omega (arith, leb-true n (2 ^ 63) e) in rw (same, e) refl
+          let same : min n (2 ^ 64) ≡ n = omega (arith, leb-true n (2 ^ 63) e) in rw (same, e) refl
       | false ↦ λ e.
-        let high : leb (min n (2 ^ 64)) (2 ^ 63) ≡ false = lt-leb (min n (2 ^ 64)) (2 ^ 63) (omega (arith, leb-false n (2 ^ 63) e)) in rw high refl
+          let high : leb (min n (2 ^ 64)) (2 ^ 63) ≡ false = lt-leb (min n (2 ^ 64)) (2 ^ 63) (omega (arith, leb-false n (2 ^ 63) e)) in rw high refl
     ] refl
 
 ltb-capped : (bound n : ℕ) → bound < 2 ^ 64 → ltb bound (min n (2 ^ 64)) ≡ ltb bound n
 ltb-capped bound n small =
-    elim (ltb bound n) as (λ t. ltb bound n ≡ t → ltb bound (min n (2 ^ 64)) ≡ t)
-    [
+    elim (ltb bound n) as (λ t. ltb bound n ≡ t → ltb bound (min n (2 ^ 64)) ≡ t) [
       | true ↦ λ e. lt-ltb bound (min n (2 ^ 64)) (omega (arith, ltb-true bound n e))
       | false ↦ λ e. le-ltb bound (min n (2 ^ 64)) (omega (arith, ltb-false bound n e))
     ] refl
@@ -135,9 +131,6 @@ parts-read target op (suc n) (text ∷ texts) (w ∷ ws) are few =
 abbrev pub IsPartsRead : (List ℕ → Option ℕ) → Op → ℕ → List (List ℕ) → List Part → Type 0
 IsPartsRead target op n texts parts = (ws : List Written) × AreWritten texts ws × (length texts ≤ n) × (parts ≡ padded n (all_parts target op ws))
 
-none-many : (text : List ℕ) (texts : List (List ℕ)) (parts : List Part) → cond (eqb (length (text ∷ texts)) 0) (Some []) None ≡ Some parts → ⊥
-none-many text texts parts h = let some : eqb (length (text ∷ texts)) 0 ≡ false = ne_eqb (length (text ∷ texts)) 0 (λ e. omega arith) in let e = rw some at h in cc
-
 abbrev with_texts : List (List ℕ) → Part → Part × List (List ℕ)
 with_texts texts part = (part, texts)
 
@@ -152,15 +145,18 @@ step-known target op n text texts parts None is more h = cc
 step-known target op n text texts parts (Some part) is more h =
     let here = part-known target op text part is in
     let behind = map_some (parts_in target op n texts) (λ ps. part ∷ ps) parts h in
-    let rest = more behind.0 behind.1 in
-    (here.0 ∷ rest.0, (here.1, rest.1), omega (arith, rest.2),
-    sym behind.2 ∙ ap (λ (p : Part). p ∷ behind.0) here.2 ∙ ap (λ (ps : List Part). part_of target op here.0 ∷ ps) rest.3)
+    let rest = more behind.0 behind.1 in (
+      here.0 ∷ rest.0,
+      (here.1, rest.1),
+      omega (arith, rest.2),
+      sym behind.2 ∙ ap (λ (p : Part). p ∷ behind.0) here.2 ∙ ap (λ (ps : List Part). part_of target op here.0 ∷ ps) rest.3,
+    )
 
 pub parts-known : (target : List ℕ → Option ℕ) (op : Op) (n : ℕ) (texts : List (List ℕ)) (parts : List Part) → parts_in target op n texts ≡ Some parts
     → IsPartsRead target op n texts parts
 unfolding next_part
 parts-known target op n [] parts h = ([], tt, omega arith, sym (same_Some (padded n []) parts (sym (none-in target op n) ∙ h)))
-parts-known target op zero (text ∷ texts) parts h = absurd (none-many text texts parts h)
+parts-known target op zero (text ∷ texts) parts h = cc
 parts-known target op (suc n) (text ∷ texts) parts h =
     step-known target op n text texts parts (part_in target op text) refl (parts-known target op n texts) h
 
@@ -308,3 +304,42 @@ pub placed-known : (target : List ℕ → Option ℕ) (L : List ℕ → ℕ → 
 placed-known target L op (Immediate negative n) finds h = tt
 placed-known target L op (Label name) finds h = some-placed target L name (target name) finds refl h
 placed-known target L op (Plain operand) finds h = tt
+
+-- four operands
+
+abbrev Next : Type 0
+Next = Option (Part × List (List ℕ))
+
+-- a part before those that are read
+abbrev before : Part → Option (List Part) → Option (List Part)
+before part parts = option_map (λ ps. part ∷ ps) parts
+
+fourth-last : (a b c : Part) (d : Next) → (d >>= λ n. cond (are_none n.1) (Some (gathered (a ∷ b ∷ c ∷ n.0 ∷ []))) None)
+    ≡ option_map gathered (before a (before b (before c (d >>= λ n. before n.0 (cond (are_none n.1) (Some []) None)))))
+fourth-last a b c None = refl
+fourth-last a b c (Some n) =
+    elim (are_none n.1) as (λ t. cond t (Some (gathered (a ∷ b ∷ c ∷ n.0 ∷ []))) None ≡ option_map gathered (before a (before b (before c (before n.0 (cond t (Some []) None))))))
+    [ true ↦ refl | false ↦ refl ]
+
+third-then : (target : List ℕ → Option ℕ) (op : Op) (a b : Part) (c : Next)
+    → (c >>= λ m. (next_part target op m.1 >>= λ n. cond (are_none n.1) (Some (gathered (a ∷ b ∷ m.0 ∷ n.0 ∷ []))) None))
+    ≡ option_map gathered (before a (before b (c >>= λ m. before m.0 (parts_in target op 1 m.1))))
+third-then target op a b None = refl
+third-then target op a b (Some m) = fourth-last a b m.0 (next_part target op m.1)
+
+second-then : (target : List ℕ → Option ℕ) (op : Op) (a : Part) (b : Next)
+    → (b >>= λ k. (next_part target op k.1 >>= λ m. (next_part target op m.1 >>= λ n. cond (are_none n.1) (Some (gathered (a ∷ k.0 ∷ m.0 ∷ n.0 ∷ []))) None)))
+    ≡ option_map gathered (before a (b >>= λ k. before k.0 (parts_in target op 2 k.1)))
+second-then target op a None = refl
+second-then target op a (Some k) = third-then target op a k.0 (next_part target op k.1)
+
+first-then : (target : List ℕ → Option ℕ) (op : Op) (a : Next)
+    → (a >>= λ j. (next_part target op j.1 >>= λ k. (next_part target op k.1 >>= λ m. (next_part target op m.1 >>= λ n. cond (are_none n.1) (Some (gathered (j.0 ∷ k.0 ∷ m.0 ∷ n.0 ∷ []))) None))))
+    ≡ option_map gathered (a >>= λ j. before j.0 (parts_in target op 3 j.1))
+first-then target op None = refl
+first-then target op (Some j) = second-then target op j.0 (next_part target op j.1)
+
+-- four operands are four parts
+pub four-parts : (target : List ℕ → Option ℕ) (op : Op) (texts : List (List ℕ)) → four_in target op texts ≡ option_map gathered (parts_in target op 4 texts)
+unfolding four_in
+four-parts target op texts = first-then target op (next_part target op texts)

@@ -6,7 +6,7 @@ use Rattle.std.proofs.lemmas.Option.{same_Some}
 use Rattle.std.proofs.Math.Seq.{take-append_seam, get_or-append_seam, take-suc, take-length}
 use Rattle.text_lines.specs.Cutting.{onto_front, cut_at}
 use Rattle.att_statements.specs.Operands.{open_behind, open_after, IsUncut, AreParts, IsParenthesised}
-use Rattle.att_statements.specs.ReadingOperands.{◌>>=◌, onto_first, parts_from, before_byte, parenthesised}
+use Rattle.att_statements.specs.ReadingOperands.{◌>>=◌, onto_first, are_none, parts_from, before_byte, parenthesised}
 use Rattle.att_statements.proofs.NumberTexts.{bind_some, chosen_then, heads}
 
 -- commas
@@ -46,11 +46,10 @@ pub parts-known : (n : ℕ) (text : List ℕ) → AreParts n text (parts_from n 
 unfolding parts_from
 parts-known n [] = (refl, no_comma n)
 parts-known n (b ∷ bs) =
-    elim (eqb b 44 && eqb n 0) as (λ t. (eqb b 44 && eqb n 0) ≡ t → AreParts n (b ∷ bs) (cond t ([] ∷ parts_from 0 bs) (onto_first b (parts_from (open_behind n b) bs))))
-    [
+    elim (eqb b 44 && eqb n 0) as (λ t. (eqb b 44 && eqb n 0) ≡ t → AreParts n (b ∷ bs) (cond t ([] ∷ parts_from 0 bs) (onto_first b (parts_from (open_behind n b) bs)))) [
       | true ↦ λ e.
-        let p = and_parts (eqb b 44) (eqb n 0) e in
-        parts-cut n b bs (parts_from 0 bs) (eqb-true b 44 p.0) (eqb-true n 0 p.1) (parts-known 0 bs)
+          let p = and_parts (eqb b 44) (eqb n 0) e in
+          parts-cut n b bs (parts_from 0 bs) (eqb-true b 44 p.0) (eqb-true n 0 p.1) (parts-known 0 bs)
       | false ↦ λ e. parts-onto n b bs (parts_from (open_behind n b) bs) (comma_inside n b e) (parts-known (open_behind n b) bs)
     ] refl
 
@@ -60,10 +59,9 @@ uncut-behind n b part uncut before after e = uncut (b ∷ before) after (ap (λ 
 
 first_inside : (n b : ℕ) (part : List ℕ) → IsUncut n (b ∷ part) → (eqb b 44 && eqb n 0) ≡ false
 first_inside n b part uncut =
-    elim (eqb b 44) as (λ t. eqb b 44 ≡ t → (t && eqb n 0) ≡ false)
-    [
+    elim (eqb b 44) as (λ t. eqb b 44 ≡ t → (t && eqb n 0) ≡ false) [
       | true ↦ λ e.
-        let inside : 0 < n = uncut [] part (ap (λ (x : ℕ). x ∷ part) (eqb-true b 44 e)) in ne_eqb n 0 (λ z. omega arith)
+          let inside : 0 < n = uncut [] part (ap (λ (x : ℕ). x ∷ part) (eqb-true b 44 e)) in ne_eqb n 0 (λ z. omega arith)
       | false ↦ λ e. refl
     ] refl
 
@@ -106,16 +104,16 @@ pub cut-known : (byte : ℕ) (text : List ℕ) (x : List ℕ × List ℕ) → cu
 unfolding cut_at
 cut-known byte [] x h = cc
 cut-known byte (b ∷ bs) x h =
-    elim (eqb b byte) as (λ t. eqb b byte ≡ t → cond t (Some ([], bs)) (onto_front b (cut_at byte bs)) ≡ Some x → (b ∷ bs ≡ x.0 ++ byte ∷ x.1) × (lacks byte x.0 ≡ true))
-    [
+    elim (eqb b byte) as (λ t. eqb b byte ≡ t → cond t (Some ([], bs)) (onto_front b (cut_at byte bs)) ≡ Some x → (b ∷ bs ≡ x.0 ++ byte ∷ x.1) × (lacks byte x.0 ≡ true)) [
       | true ↦ λ e found.
-        let same = same_Some ([], bs) x found in
-        subst (λ (p : List ℕ × List ℕ). (b ∷ bs ≡ p.0 ++ byte ∷ p.1) × (lacks byte p.0 ≡ true)) same (ap (λ (y : ℕ). y ∷ bs) (eqb-true b byte e), refl)
+          let same = same_Some ([], bs) x found in
+          subst (λ (p : List ℕ × List ℕ). (b ∷ bs ≡ p.0 ++ byte ∷ p.1) × (lacks byte p.0 ≡ true)) same (ap (λ (y : ℕ). y ∷ bs) (eqb-true b byte e), refl)
       | false ↦ λ e found.
-        let p = front_some b (cut_at byte bs) x found in
-        let more = cut-known byte bs p.0 p.1 in
-        (ap (λ (xs : List ℕ). b ∷ xs) more.0 ∙ sym (ap (λ (xs : List ℕ). xs ++ byte ∷ x.1) p.2 ∙ ap (λ (xs : List ℕ). (b ∷ p.0.0) ++ byte ∷ xs) p.3),
-        ap (lacks byte) p.2 ∙ and_from (not (eqb b byte)) (lacks byte p.0.0) (ap not e) more.1)
+          let p = front_some b (cut_at byte bs) x found in
+          let more = cut-known byte bs p.0 p.1 in (
+            ap (λ (xs : List ℕ). b ∷ xs) more.0 ∙ sym (ap (λ (xs : List ℕ). xs ++ byte ∷ x.1) p.2 ∙ ap (λ (xs : List ℕ). (b ∷ p.0.0) ++ byte ∷ xs) p.3),
+            ap (lacks byte) p.2 ∙ and_from (not (eqb b byte)) (lacks byte p.0.0) (ap not e) more.1,
+          )
     ] refl h
 
 pub cut-only : (byte : ℕ) (x y : List ℕ) → eqb byte byte ≡ true → lacks byte x ≡ true → cut_at byte (x ++ byte ∷ y) ≡ Some (x, y)
@@ -168,7 +166,7 @@ parenthesised-known text x h =
     let parts = cut-known 40 text cut.0 cut.1 in
     let ends = before_byte-known 41 cut.0.1 inside.0 inside.1 in
     subst (λ (p : List ℕ × List ℕ). IsParenthesised text p.0 p.1) (same_Some (cut.0.0, inside.0) x inside.2)
-      (record { spelled = parts.0 ∙ ap (λ (xs : List ℕ). cut.0.0 ++ 40 ∷ xs) ends; first = parts.1 })
+    (record { spelled = parts.0 ∙ ap (λ (xs : List ℕ). cut.0.0 ++ 40 ∷ xs) ends; first = parts.1 })
 
 pub parenthesised-only : (text before inside : List ℕ) → IsParenthesised text before inside → parenthesised text ≡ Some (before, inside)
 unfolding parenthesised
@@ -180,3 +178,21 @@ parenthesised-only text before inside p =
 pub parenthesised-none : (text : List ℕ) → lacks 40 text ≡ true → parenthesised text ≡ None
 unfolding parenthesised
 parenthesised-none text h = let none = cut-none 40 text h in rw none refl
+
+-- a text before the first of some parts
+abbrev pub onto_parts : List ℕ → List (List ℕ) → List (List ℕ)
+onto_parts front [] = []
+onto_parts front (part ∷ parts) = (front ++ part) ∷ parts
+
+-- a list before the first of two parts
+abbrev pub all_onto : List ℕ → Option (List ℕ × List ℕ) → Option (List ℕ × List ℕ)
+all_onto front None = None
+all_onto front (Some parts) = Some (front ++ parts.0, parts.1)
+
+some-first : (n : ℕ) (text : List ℕ) (parts : List (List ℕ)) → AreParts n text parts → false ≡ are_none parts
+some-first n text [] are = absurd are
+some-first n text (part ∷ parts) are = refl
+
+-- each text has a part
+pub some_parts : (text : List ℕ) → false ≡ are_none (parts_from 0 text)
+some_parts text = some-first 0 text (parts_from 0 text) (parts-known 0 text)

@@ -145,15 +145,13 @@ pub register-known : (name : List ℕ) (o : Operand) → register_named name ≡
     → (n : ℕ) × (w : ℕ) × (slice_get (register_names w) n ≡ Some name) × (o ≡ Reg n w)
 unfolding register_named
 register-known name o h =
-    elim (or_some (register_by 64 name) (option_or (register_by 32 name) (option_or (register_by 16 name) (register_by 8 name))) o h)
-    [
+    elim (or_some (register_by 64 name) (option_or (register_by 32 name) (option_or (register_by 16 name) (register_by 8 name))) o h) [
       | inl e ↦ by-known 64 name o e
       | inr e ↦
-        elim (or_some (register_by 32 name) (option_or (register_by 16 name) (register_by 8 name)) o e.1)
-        [
-          | inl f ↦ by-known 32 name o f
-          | inr f ↦
-            elim (or_some (register_by 16 name) (register_by 8 name) o f.1)
-            [ inl g ↦ by-known 16 name o g | inr g ↦ by-known 8 name o g.1 ]
-        ]
+          elim (or_some (register_by 32 name) (option_or (register_by 16 name) (register_by 8 name)) o e.1) [
+            | inl f ↦ by-known 32 name o f
+            | inr f ↦
+                elim (or_some (register_by 16 name) (register_by 8 name) o f.1)
+                [ inl g ↦ by-known 16 name o g | inr g ↦ by-known 8 name o g.1 ]
+          ]
     ]

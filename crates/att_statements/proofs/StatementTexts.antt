@@ -1,6 +1,7 @@
 -- What the code reads of statements, against what statements are and what may be wrong with them.
 use Rattle.std.proofs.Common.{◌≡◌, ◌≢◌, ℕ, ◌+◌, ◌-◌, ◌<◌, ◌≤◌, ◌⊎◌, inl, inr, Bool, true, false, ◌&&◌, ◌||◌, cond, zero, suc, List, [], ◌∷◌, length, map, Option, Some, None, Result, Ok, Err, slice_get, codes, refl, sym, ap, ◌∙◌, subst, arith}
 use Rattle.std.specs.List.{list_all, list_any, find, AllByRecursion}
+use Rattle.std.specs.Option.{option_map}
 use Rattle.std.specs.Str.{bytes_eq}
 use Rattle.std.proofs.lemmas.Bool.{and_parts, and_from, or_parts, both_ways}
 use Rattle.std.proofs.lemmas.Option.{same_Some}
@@ -21,15 +22,15 @@ use Rattle.text_lines.specs.declared.refusal.ReadKind.{ReadKind}
 use Rattle.text_lines.specs.declared.refusal.ReadKind.TheVariants.{UnknownInstruction, PoolRefused, BadOperand, BadNumber, UnknownLabel}
 use Rattle.text_lines.proofs.Trimming.{word-known, word-only, trim-known, trim-only}
 use Rattle.att_statements.specs.Operands.{Written, Immediate, Label, Plain, AreParts, IsOperandPart, IsPoolPart}
-use Rattle.att_statements.specs.Statements.{IsRepeatedReturn, IsReadAs, AreOperands, HasParts, AreWritten, StandFor, HasPlace, IsWithin, four, IsMade, IsInsnText, HasSuch, IsMisfit, HasWideNumber, HasNoOperands, IsLost, IsBadStatement}
+use Rattle.att_statements.specs.Statements.{LeadsTo, IsRepeatedReturn, IsReadAs, AreOperands, HasParts, AreWritten, StandFor, HasPlace, IsWithin, four, IsMade, IsInsnText, HasSuch, IsMisfit, HasWideNumber, HasNoOperands, IsLost, IsBadStatement}
 use Rattle.att_statements.specs.ReadingOperands.{parts_from, is_pool_part}
 use Rattle.att_statements.specs.ReadingStatements as reading
-use Rattle.att_statements.specs.ReadingStatements.{is_repeated_return, shown_of, operands_of, part_of, parts_in, no_part, fitted_by, insn_with, insn_by, statement_of}
+use Rattle.att_statements.specs.ReadingStatements.{is_repeated_return, shown_of, operands_of, part_of, parts_in, no_part, gathered, four_in, fitted_by, insn_with, insn_by, statement_of}
 use Rattle.att_statements.specs.declared.part.Part.{Part}
 use Rattle.att_statements.proofs.PartTexts.{parts-known, parts-only}
 use Rattle.att_statements.proofs.WrittenTexts.{pool-known, pool-only, pool-says_nothing}
 use Rattle.att_statements.proofs.PartLists as lists
-use Rattle.att_statements.proofs.PartLists.{any-such, such-any, padded, all_parts, parts-read, none-parts, parts-none, operands_from, stand-known, stand-only, four-operands, written-count, any-padded, within-known, beyond-known, lost-known, placed-known, part-only, no-target, none-placed}
+use Rattle.att_statements.proofs.PartLists.{any-such, such-any, padded, all_parts, parts-read, none-parts, parts-none, operands_from, stand-known, stand-only, four-operands, written-count, any-padded, four-parts, within-known, beyond-known, lost-known, placed-known, part-only, no-target, none-placed}
 
 -- a statement's mnemonic and its operands' texts
 
@@ -44,10 +45,11 @@ unfolding is_repeated_return
 repeated-known text h =
     let p = and_parts (bytes_eq (prefix_of is_solid text) (codes "rep")) (bytes_eq (trim (behind_prefix is_solid text)) (codes "ret")) h in
     let rep = (bytes_eq-Decides (prefix_of is_solid text) (codes "rep")).0 p.0 in
-    let ret = (bytes_eq-Decides (trim (behind_prefix is_solid text)) (codes "ret")).0 p.1 in
-    (behind_prefix is_solid text,
-    subst (λ (w : List ℕ). HasWord text w (behind_prefix is_solid text)) rep (word-known text),
-    subst (IsPadded (behind_prefix is_solid text)) ret (trim-known (behind_prefix is_solid text)))
+    let ret = (bytes_eq-Decides (trim (behind_prefix is_solid text)) (codes "ret")).0 p.1 in (
+      behind_prefix is_solid text,
+      subst (λ (w : List ℕ). HasWord text w (behind_prefix is_solid text)) rep (word-known text),
+      subst (IsPadded (behind_prefix is_solid text)) ret (trim-known (behind_prefix is_solid text)),
+    )
 
 repeated-only : (text : List ℕ) → IsRepeatedReturn text → is_repeated_return text ≡ true
 unfolding is_repeated_return
@@ -104,9 +106,10 @@ has-known text =
 has-only : (text mnemonic : List ℕ) (parts : List (List ℕ)) → HasParts text mnemonic parts → (mnemonic_of text ≡ mnemonic) × (texts_of text ≡ parts)
 has-only text mnemonic parts h =
     let shown = shown-only text h.shown h.read in
-    let cut = word-only h.shown mnemonic h.rest h.word in
-    (ap (prefix_of is_solid) shown ∙ cut.0,
-    ap operands_of (ap (behind_prefix is_solid) shown ∙ cut.1) ∙ operands-only h.rest parts h.operands)
+    let cut = word-only h.shown mnemonic h.rest h.word in (
+      ap (prefix_of is_solid) shown ∙ cut.0,
+      ap operands_of (ap (behind_prefix is_solid) shown ∙ cut.1) ∙ operands-only h.rest parts h.operands,
+    )
 
 -- the line plays no part in why the table takes no such operands
 
@@ -118,7 +121,7 @@ judged-alike : (form : Option Form) (i j : Insn) (misfit : Misfit) → i.args �
 judged-alike None i j misfit same h = h
 judged-alike (Some form) i j misfit same h =
     fit-alike (numbers_fit j.args form) i j misfit
-      (subst (λ (a : List Operand). cond (numbers_fit a form) (Ok i) (Err misfits.BadNumber) ≡ Err misfit) same h)
+    (subst (λ (a : List Operand). cond (numbers_fit a form) (Ok i) (Err misfits.BadNumber) ≡ Err misfit) same h)
 
 misfit-line : (shape : Shape) (args : List Operand) (k line : ℕ) (misfit : Misfit) → fits_of shape args k ≡ Err misfit → fits_of shape args line ≡ Err misfit
 misfit-line shape args k line misfit h =
@@ -138,11 +141,12 @@ made-read : (target : List ℕ → Option ℕ) (L : List ℕ → ℕ → Type 0)
 made-read target L text shape ws os finds made =
     let has = has-only text made.mnemonic made.parts made.has in
     let count = written-count made.parts ws made.spelled in
-    let few : length ws ≤ 4 = omega (arith, made.few) in
-    (ap (named general_rows) has.0 ∙ made.row,
-    ap (parts_in target shape.op 4) has.1 ∙ parts-read target shape.op 4 made.parts ws made.spelled made.few,
-    four-operands target shape.op ws few ∙ ap four (sym (stand-only target L shape.op ws os finds made.stand)),
-    few)
+    let few : length ws ≤ 4 = omega (arith, made.few) in (
+      ap (named general_rows) has.0 ∙ made.row,
+      ap (parts_in target shape.op 4) has.1 ∙ parts-read target shape.op 4 made.parts ws made.spelled made.few,
+      four-operands target shape.op ws few ∙ ap four (sym (stand-only target L shape.op ws os finds made.stand)),
+      few,
+    )
 
 -- how a statement is made of what is read
 made-from : (target : List ℕ → Option ℕ) (L : List ℕ → ℕ → Type 0) (text : List ℕ) (shape : Shape) (parts : List Part)
@@ -152,21 +156,22 @@ made-from : (target : List ℕ → Option ℕ) (L : List ℕ → ℕ → Type 0)
 made-from target L text shape parts finds row read =
     let known = lists.parts-known target shape.op 4 (texts_of text) parts read in
     let count = written-count (texts_of text) known.0 known.1 in
-    let few : length known.0 ≤ 4 = omega (arith, known.2) in
-    (known.0,
-    record {
-      mnemonic = mnemonic_of text;
-      parts = texts_of text;
-      has = has-known text;
-      row = row;
-      few = known.2;
-      spelled = known.1;
-      stand = stand-known target L shape.op known.0 finds;
-    },
-    known.3,
-    ap args_of known.3 ∙ four-operands target shape.op known.0 few,
-    known.1,
-    few)
+    let few : length known.0 ≤ 4 = omega (arith, known.2) in (
+      known.0,
+      record {
+        mnemonic = mnemonic_of text;
+        parts = texts_of text;
+        has = has-known text;
+        row = row;
+        few = known.2;
+        spelled = known.1;
+        stand = stand-known target L shape.op known.0 finds;
+      },
+      known.3,
+      ap args_of known.3 ∙ four-operands target shape.op known.0 few,
+      known.1,
+      few,
+    )
 
 -- what each fault says of what is read
 
@@ -194,7 +199,7 @@ misfit-fact : (target : List ℕ → Option ℕ) (L : List ℕ → ℕ → Type 
 misfit-fact target L text shape parts line misfit finds row read m =
     let same = same-made target L text shape m.shape m.written m.operands parts finds m.made row read in
     let fails : fits_of shape (args_of parts) 0 ≡ Err misfit =
-      ap (λ (x : Shape). fits_of x (args_of parts) 0) (sym same.0) ∙ ap (λ (xs : List Operand). fits_of m.shape xs 0) (sym same.2) ∙ m.fails in
+    ap (λ (x : Shape). fits_of x (args_of parts) 0) (sym same.0) ∙ ap (λ (xs : List Operand). fits_of m.shape xs 0) (sym same.2) ∙ m.fails in
     misfit-line shape (args_of parts) 0 line misfit fails
 
 operand-fact : (target : List ℕ → Option ℕ) (L : List ℕ → ℕ → Type 0) (text : List ℕ) (shape : Shape) (parts : List Part) (line : ℕ)
@@ -248,7 +253,7 @@ lost-at target L op (first ∷ texts) [] k text finds are there lost = absurd ar
 lost-at target L op (first ∷ texts) (w ∷ ws) zero text finds are there (name, says, none) =
     let is : IsOperandPart text w = subst (λ (x : List ℕ). IsOperandPart x w) (same_Some first text there) are.0 in
     let same : part_of target op w ≡ part_of target op (Label name) =
-      same_Some (part_of target op w) (part_of target op (Label name)) (sym (part-only target op text w is) ∙ part-only target op text (Label name) says) in
+    same_Some (part_of target op w) (part_of target op (Label name)) (sym (part-only target op text w is) ∙ part-only target op text (Label name) says) in
     let lost : (part_of target op w).lost ≡ true = ap is_lost same ∙ none-placed (target name) (no-target target L name (target name) finds refl none) in
     rw lost refl
 lost-at target L op (first ∷ texts) (w ∷ ws) (suc k) text finds are there lost =
@@ -416,36 +421,39 @@ right-made : (target : List ℕ → Option ℕ) (L : List ℕ → ℕ → Type 0
 right-made target L text line shape parts i true lost r fits is_true is =
     let m = made-from target L text shape parts r.finds r.row r.read in
     let any : list_any (λ w. (part_of target shape.op w).beyond) m.0 ≡ true =
-      sym (any-part target shape.op is_wide m.0 refl m.5) ∙ ap (list_any is_wide) (sym m.2) ∙ is_true in
-    let such = any-such (λ w. (part_of target shape.op w).beyond) (λ w. IsWithin shape.op w → ⊥) m.0 (beyond-known target shape.op) any in
-    (inr (record { shape = shape; written = m.0; operands = operands_from target shape.op m.0; made = m.1; beyond = such }),
-    least-number L text (no-unknown L text shape r.row) (no-pool L text r.pool) (no-operand target L text shape parts line r (λ e. cc)))
+    sym (any-part target shape.op is_wide m.0 refl m.5) ∙ ap (list_any is_wide) (sym m.2) ∙ is_true in
+    let such = any-such (λ w. (part_of target shape.op w).beyond) (λ w. IsWithin shape.op w → ⊥) m.0 (beyond-known target shape.op) any in (
+      inr (record { shape = shape; written = m.0; operands = operands_from target shape.op m.0; made = m.1; beyond = such }),
+      least-number L text (no-unknown L text shape r.row) (no-pool L text r.pool) (no-operand target L text shape parts line r (λ e. cc)),
+    )
 right-made target L text line shape parts i false true r fits is_false is_true =
     let m = made-from target L text shape parts r.finds r.row r.read in
     let any : list_any (λ w. (part_of target shape.op w).lost) m.0 ≡ true =
-      sym (any-part target shape.op is_lost m.0 refl m.5) ∙ ap (list_any is_lost) (sym m.2) ∙ is_true in
-    let such = any-such (λ w. (part_of target shape.op w).lost) (λ w. HasPlace L w → ⊥) m.0 (λ w e. lost-known target L shape.op w r.finds e) any in
-    ((mnemonic_of text, texts_of text, has-known text, lost-such L (texts_of text) m.0 such.place such.item m.4 such.there such.such),
-    least-label L text (no-unknown L text shape r.row) (no-pool L text r.pool) (no-operand target L text shape parts line r (λ e. cc))
-      (λ bad. no-number target L text shape parts line i r fits is_false bad))
+    sym (any-part target shape.op is_lost m.0 refl m.5) ∙ ap (list_any is_lost) (sym m.2) ∙ is_true in
+    let such = any-such (λ w. (part_of target shape.op w).lost) (λ w. HasPlace L w → ⊥) m.0 (λ w e. lost-known target L shape.op w r.finds e) any in (
+      (mnemonic_of text, texts_of text, has-known text, lost-such L (texts_of text) m.0 such.place such.item m.4 such.there such.such),
+      least-label L text (no-unknown L text shape r.row) (no-pool L text r.pool) (no-operand target L text shape parts line r (λ e. cc))
+          (λ bad. no-number target L text shape parts line i r fits is_false bad),
+    )
 right-made target L text line shape parts i false false r fits no_wide no_lost =
     let m = made-from target L text shape parts r.finds r.row r.read in
     let within : list_any (λ w. (part_of target shape.op w).beyond) m.0 ≡ false =
-      sym (any-part target shape.op is_wide m.0 refl m.5) ∙ ap (list_any is_wide) (sym m.2) ∙ no_wide in
+    sym (any-part target shape.op is_wide m.0 refl m.5) ∙ ap (list_any is_wide) (sym m.2) ∙ no_wide in
     let placed : list_any (λ w. (part_of target shape.op w).lost) m.0 ≡ false =
-      sym (any-part target shape.op is_lost m.0 refl m.5) ∙ ap (list_any is_lost) (sym m.2) ∙ no_lost in
-    (record {
-      shape = shape;
-      written = m.0;
-      operands = operands_from target shape.op m.0;
-      made = m.1;
-      within = all-within target shape.op m.0 within;
-      placed = all-placed target L shape.op m.0 r.finds placed;
-      fits = ap (λ (xs : List Operand). fits_of shape xs line) (sym m.3) ∙ fits;
-    },
-    none-bad L text (no-unknown L text shape r.row) (no-pool L text r.pool) (no-operand target L text shape parts line r (λ e. cc))
-      (λ bad. no-number target L text shape parts line i r fits no_wide bad)
-      (λ bad. both_ways (list_any is_lost parts) no_lost (label-fact target L text shape parts r.finds r.row r.read bad)))
+    sym (any-part target shape.op is_lost m.0 refl m.5) ∙ ap (list_any is_lost) (sym m.2) ∙ no_lost in (
+      record {
+        shape = shape;
+        written = m.0;
+        operands = operands_from target shape.op m.0;
+        made = m.1;
+        within = all-within target shape.op m.0 within;
+        placed = all-placed target L shape.op m.0 r.finds placed;
+        fits = ap (λ (xs : List Operand). fits_of shape xs line) (sym m.3) ∙ fits;
+      },
+      none-bad L text (no-unknown L text shape r.row) (no-pool L text r.pool) (no-operand target L text shape parts line r (λ e. cc))
+          (λ bad. no-number target L text shape parts line i r fits no_wide bad)
+          (λ bad. both_ways (list_any is_lost parts) no_lost (label-fact target L text shape parts r.finds r.row r.read bad)),
+    )
 
 misfit-from : (target : List ℕ → Option ℕ) (L : List ℕ → ℕ → Type 0) (text : List ℕ) (line : ℕ) (shape : Shape) (parts : List Part) (misfit : Misfit)
     → AreRead target L text shape parts → fits_of shape (args_of parts) line ≡ Err misfit → IsMisfit L text misfit
@@ -460,33 +468,37 @@ misfit-from target L text line shape parts misfit r fits =
     }
 
 right-judged : (target : List ℕ → Option ℕ) (L : List ℕ → ℕ → Type 0) (text : List ℕ) (line : ℕ) (shape : Shape) (parts : List Part) (judged : Result Insn Misfit)
-    → AreRead target L text shape parts → fits_of shape (args_of parts) line ≡ judged → IsRight L text line (reading.judged_by parts judged)
+    → AreRead target L text shape parts → fits_of shape (args_of parts) line ≡ judged → IsRight L text line (reading.judged_by (gathered parts) judged)
 right-judged target L text line shape parts (Ok i) r fits =
     right-made target L text line shape parts i (list_any is_wide parts) (list_any is_lost parts) r fits refl refl
-right-judged target L text line shape parts (Err misfits.BadOperand) r fits =
-    (inr (misfit-from target L text line shape parts misfits.BadOperand r fits),
-    least-operand L text (no-unknown L text shape r.row) (no-pool L text r.pool))
-right-judged target L text line shape parts (Err misfits.BadNumber) r fits =
-    (inl (misfit-from target L text line shape parts misfits.BadNumber r fits),
-    least-number L text (no-unknown L text shape r.row) (no-pool L text r.pool) (no-operand target L text shape parts line r (λ e. cc)))
+right-judged target L text line shape parts (Err misfits.BadOperand) r fits = (
+  inr (misfit-from target L text line shape parts misfits.BadOperand r fits),
+  least-operand L text (no-unknown L text shape r.row) (no-pool L text r.pool),
+)
+right-judged target L text line shape parts (Err misfits.BadNumber) r fits = (
+  inl (misfit-from target L text line shape parts misfits.BadNumber r fits),
+  least-number L text (no-unknown L text shape r.row) (no-pool L text r.pool) (no-operand target L text shape parts line r (λ e. cc)),
+)
 
 right-fitted : (target : List ℕ → Option ℕ) (L : List ℕ → ℕ → Type 0) (text : List ℕ) (line : ℕ) (shape : Shape) (read : Option (List Part)) → FindsTargets target L
     → named general_rows (mnemonic_of text) ≡ Some shape → list_any is_pool_part (texts_of text) ≡ false → parts_in target shape.op 4 (texts_of text) ≡ read
-    → IsRight L text line (fitted_by shape line read)
-right-fitted target L text line shape None finds row pool read =
-    (inl (mnemonic_of text, texts_of text, has-known text, parts-none target shape.op 4 (texts_of text) read),
-    least-operand L text (no-unknown L text shape row) (no-pool L text pool))
+    → IsRight L text line (fitted_by shape line (option_map gathered read))
+right-fitted target L text line shape None finds row pool read = (
+  inl (mnemonic_of text, texts_of text, has-known text, parts-none target shape.op 4 (texts_of text) read),
+  least-operand L text (no-unknown L text shape row) (no-pool L text pool),
+)
 right-fitted target L text line shape (Some parts) finds row pool read =
     right-judged target L text line shape parts (fits_of shape (args_of parts) line) (record { finds = finds; row = row; pool = pool; read = read }) refl
 
 right-pool : (target : List ℕ → Option ℕ) (L : List ℕ → ℕ → Type 0) (text : List ℕ) (line : ℕ) (shape : Shape) (pool : Bool) → FindsTargets target L
     → named general_rows (mnemonic_of text) ≡ Some shape → list_any is_pool_part (texts_of text) ≡ pool
-    → IsRight L text line (cond pool (Err PoolRefused) (fitted_by shape line (parts_in target shape.op 4 (texts_of text))))
-right-pool target L text line shape true finds row pool =
-    ((mnemonic_of text, texts_of text, has-known text, any-such is_pool_part IsPoolPart (texts_of text) pool-known pool),
-    least-pool L text (no-unknown L text shape row))
+    → IsRight L text line (cond pool (Err PoolRefused) (fitted_by shape line (four_in target shape.op (texts_of text))))
+right-pool target L text line shape true finds row pool = (
+  (mnemonic_of text, texts_of text, has-known text, any-such is_pool_part IsPoolPart (texts_of text) pool-known pool),
+  least-pool L text (no-unknown L text shape row),
+)
 right-pool target L text line shape false finds row pool =
-    right-fitted target L text line shape (parts_in target shape.op 4 (texts_of text)) finds row pool refl
+    rw (four-parts target shape.op (texts_of text)) (right-fitted target L text line shape (parts_in target shape.op 4 (texts_of text)) finds row pool refl)
 
 right-named : (target : List ℕ → Option ℕ) (L : List ℕ → ℕ → Type 0) (text : List ℕ) (line : ℕ) (row : Option Shape) → FindsTargets target L
     → named general_rows (mnemonic_of text) ≡ row → IsRight L text line (insn_by target row (texts_of text) line)
@@ -519,19 +531,19 @@ statement-only target L text line i finds is =
     let m = made-read target L text is.shape is.written is.operands finds is.made in
     let has = has-only text is.made.mnemonic is.made.parts is.made.has in
     let pool : list_any is_pool_part (texts_of text) ≡ false =
-      ap (list_any is_pool_part) has.1 ∙ no-pool_part is.made.parts is.written is.made.spelled in
+    ap (list_any is_pool_part) has.1 ∙ no-pool_part is.made.parts is.written is.made.spelled in
     let row : named general_rows (mnemonic_of text) ≡ Some is.shape = m.0 in
     let read : parts_in target is.shape.op 4 (texts_of text) ≡ Some (padded 4 (all_parts target is.shape.op is.written)) = m.1 in
     let fits : fits_of is.shape (args_of (padded 4 (all_parts target is.shape.op is.written))) line ≡ Ok i =
-      ap (λ (xs : List Operand). fits_of is.shape xs line) m.2 ∙ is.fits in
+    ap (λ (xs : List Operand). fits_of is.shape xs line) m.2 ∙ is.fits in
     let wide : list_any is_wide (padded 4 (all_parts target is.shape.op is.written)) ≡ false =
-      any-part target is.shape.op is_wide is.written refl m.3 ∙ none-within target is.shape.op is.written is.within in
+    any-part target is.shape.op is_wide is.written refl m.3 ∙ none-within target is.shape.op is.written is.within in
     let lost : list_any is_lost (padded 4 (all_parts target is.shape.op is.written)) ≡ false =
-      any-part target is.shape.op is_lost is.written refl m.3 ∙ none-lost target L is.shape.op is.written finds is.placed in
+    any-part target is.shape.op is_lost is.written refl m.3 ∙ none-lost target L is.shape.op is.written finds is.placed in
     ap (λ (o : Option Shape). insn_by target o (texts_of text) line) row
-    ∙ ap (λ (t : Bool). cond t (Err PoolRefused) (fitted_by is.shape line (parts_in target is.shape.op 4 (texts_of text)))) pool
-    ∙ ap (fitted_by is.shape line) read
-    ∙ ap (reading.judged_by (padded 4 (all_parts target is.shape.op is.written))) fits
+    ∙ ap (λ (t : Bool). cond t (Err PoolRefused) (fitted_by is.shape line (four_in target is.shape.op (texts_of text)))) pool
+    ∙ ap (fitted_by is.shape line) (four-parts target is.shape.op (texts_of text) ∙ ap (option_map gathered) read)
+    ∙ ap (reading.judged_by (gathered (padded 4 (all_parts target is.shape.op is.written)))) fits
     ∙ ap (λ (t : Bool). cond t (Err BadNumber) (cond (list_any is_lost (padded 4 (all_parts target is.shape.op is.written))) (Err UnknownLabel) (Ok i))) wide
     ∙ ap (λ (t : Bool). cond t (Err UnknownLabel) (Ok i)) lost
 
@@ -543,3 +555,9 @@ statements-read target L finds =
       only = λ text line i is. statement-only target L text line i finds is;
       known = fault-range L;
     }
+
+-- the same, where labels lead to the places of a look-up
+pub looked-up : (target : List ℕ → Option ℕ) → Reads (statement_of target) (IsBadStatement (LeadsTo target)) (IsInsnText (LeadsTo target))
+looked-up target = statements-read target (LeadsTo target) (record { known = λ name place h. h; only = λ name place h. h })
+
+pub ruleset reader = (looked-up)

@@ -68,8 +68,8 @@ symbol-only text (inr (name, sign, digits, n, is, named, signed, d)) =
     let some = decimal-only digits n d in
     let is_sign = sign-only sign signed in
     symbol-from text name (sign ∷ digits) is named
-      (λ b more e. subst (λ (x : ℕ). is_name_byte x ≡ false) (heads sign b digits more e) (no_name-byte sign signed))
-      (rw (is_sign, some) refl)
+    (λ b more e. subst (λ (x : ℕ). is_name_byte x ≡ false) (heads sign b digits more e) (no_name-byte sign signed))
+    (rw (is_sign, some) refl)
 
 relative-known : (text : List ℕ) (r : Option (List ℕ × List ℕ)) → parenthesised text ≡ r → is_relative r ≡ true → IsPoolText text
 relative-known text None is h = cc
@@ -106,9 +106,9 @@ lacks-from p byte [] none all = refl
 lacks-from p byte (b ∷ bs) none all =
     let both = and_parts (p b) (list_all p bs) all in
     and_from (not (eqb b byte)) (lacks byte bs)
-      (elim (eqb b byte) as (λ t. eqb b byte ≡ t → not t ≡ true)
-      [ true ↦ λ e. absurd (both_ways (p b) (ap p (eqb-true b byte e) ∙ none) both.0) | false ↦ λ e. refl ] refl)
-      (lacks-from p byte bs none both.1)
+    (elim (eqb b byte) as (λ t. eqb b byte ≡ t → not t ≡ true)
+    [ true ↦ λ e. absurd (both_ways (p b) (ap p (eqb-true b byte e) ∙ none) both.0) | false ↦ λ e. refl ] refl)
+    (lacks-from p byte bs none both.1)
 
 name-bare : (text : List ℕ) → IsName text → lacks 40 text ≡ true
 name-bare text named = lacks-from is_name_byte 40 text refl (name-bytes text named)
@@ -173,13 +173,15 @@ numeral-from number text found h spelled named = let p = number-known number fou
 dollar-known : (number text : List ℕ) (found : Option (Bool × ℕ)) (leading : Bool) (v : Written) → text ≡ 36 ∷ number → number_of number ≡ found
     → is_some (digits_of 10 number) ≡ leading → dollar_by found leading text ≡ Some v → IsRead text v
 dollar-known number text (Some found) leading v spelled is leads h =
-    let read = number-known number found is in
-    (Immediate found.0 read.0, (number, spelled, read.1),
-    sym (same_Some (Immediate found.0 found.1) v h) ∙ ap (λ (m : ℕ). Immediate found.0 m) read.2)
+    let read = number-known number found is in (
+      Immediate found.0 read.0,
+      (number, spelled, read.1),
+      sym (same_Some (Immediate found.0 found.1) v h) ∙ ap (λ (m : ℕ). Immediate found.0 m) read.2,
+    )
 dollar-known number text None true v spelled is leads h = cc
 dollar-known number text None false v spelled is leads h =
     let other = λ (again : List ℕ) (same : text ≡ 36 ∷ again) (numeral : IsNumeral again).
-      no_numeral number is leads (subst IsNumeral (sym (tails 36 36 number again (sym spelled ∙ same))) numeral) in
+    no_numeral number is leads (subst IsNumeral (sym (tails 36 36 number again (sym spelled ∙ same))) numeral) in
     let p = label-read text v h in
     (p.0, label-known text p.0 p.1 other, p.2)
 

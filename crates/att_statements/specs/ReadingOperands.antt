@@ -80,6 +80,16 @@ unfoldable pub parts_from : ℕ → List ℕ → List (List ℕ)
 parts_from n [] = [] ∷ []
 parts_from n (b ∷ bs) = if (b == 44) && (n == 0) then [] ∷ parts_from 0 bs else onto_first b (parts_from (open_behind n b) bs)
 
+-- whether there is no text
+abbrev pub are_none : List (List ℕ) → Bool
+are_none [] = true
+are_none (text ∷ texts) = false
+
+-- the parts of a text, if there is one
+abbrev pub parts_left : Option (List ℕ) → List (List ℕ)
+parts_left None = []
+parts_left (Some text) = parts_from 0 text
+
 -- memory
 
 -- what stands before this last byte
@@ -133,8 +143,8 @@ unfoldable pub address_of : List (List ℕ) → Option Address
 address_of [] = None
 address_of (base ∷ []) = option_map (λ (n : ℕ). (Some n, None, 1)) (address_register base)
 address_of (base ∷ index ∷ []) = base_of base >>= λ b. option_map (λ i. (b, i, 1)) (index_of index)
-address_of (base ∷ index ∷ scale ∷ []) = base_of base >>= λ b. (index_of index >>= λ i. option_map (λ (s : ℕ). (b, i, s)) (scale_of scale))
-address_of (base ∷ index ∷ scale ∷ more ∷ parts) = None
+address_of (base ∷ index ∷ scale ∷ parts) =
+    if are_none parts then (base_of base >>= λ b. (index_of index >>= λ i. option_map (λ (s : ℕ). (b, i, s)) (scale_of scale))) else None
 
 -- memory, by what stands before and inside its parentheses
 unfoldable pub memory_of : List ℕ → List ℕ → Option Operand

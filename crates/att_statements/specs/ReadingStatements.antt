@@ -17,8 +17,9 @@ use Rattle.text_lines.specs.declared.refusal.ReadKind.{ReadKind}
 use Rattle.text_lines.specs.declared.refusal.ReadKind.TheVariants.{UnknownInstruction, PoolRefused, BadOperand, BadNumber, UnknownLabel}
 use Rattle.att_statements.specs.Operands.{Written, Immediate, Label, Plain}
 use Rattle.att_statements.specs.Statements.{word_of, greatest_written}
-use Rattle.att_statements.specs.ReadingOperands.{◌>>=◌, parts_from, written_of, is_pool_part}
+use Rattle.att_statements.specs.ReadingOperands.{◌>>=◌, are_none, parts_from, written_of, is_pool_part}
 use Rattle.att_statements.specs.declared.part.Part.{Part}
+use Rattle.att_statements.specs.declared.part.Operands.{Operands}
 
 -- whether the statement is `rep` and then `ret` alone
 unfoldable pub is_repeated_return : List ℕ → Bool
@@ -42,9 +43,13 @@ is_beyond op true n = nat_lt (2 ^ 63) n
 abbrev pub no_part : Part
 no_part = record { operand = Nothing; beyond = false; lost = false }
 
+-- an immediate
+abbrev pub immediate_part : Op → Bool → ℕ → Part
+immediate_part op negative n = record { operand = Imm (word_of negative n); beyond = is_beyond op negative n; lost = false }
+
 -- the operand that is written so, whether its number is out of range, and whether its label leads nowhere
 abbrev pub part_of : (List ℕ → Option ℕ) → Op → Written → Part
-part_of target op (Immediate negative n) = record { operand = Imm (word_of negative n); beyond = is_beyond op negative n; lost = false }
+part_of target op (Immediate negative n) = immediate_part op negative n
 part_of target op (Label name) = record { operand = Target (unwrap_or (target name) 0); beyond = false; lost = is_none (target name) }
 part_of target op (Plain operand) = record { operand = operand; beyond = false; lost = false }
 
@@ -59,27 +64,41 @@ next_part target op (text ∷ texts) = option_map (λ part. (part, texts)) (part
 
 -- n parts, of which the last may be no operands
 abbrev pub parts_in : (List ℕ → Option ℕ) → Op → ℕ → List (List ℕ) → Option (List Part)
-parts_in target op zero texts = if length texts == 0 then Some [] else None
+parts_in target op zero texts = if are_none texts then Some [] else None
 parts_in target op (suc n) texts = next_part target op texts >>= λ next. option_map (λ parts. next.0 ∷ parts) (parts_in target op n next.1)
 
--- what is answered where the table takes these operands, or why it doesn't
-abbrev pub judged_by : List Part → Result Insn Misfit → Result Insn ReadKind
-judged_by parts (Err misfits.BadOperand) = Err BadOperand
-judged_by parts (Err misfits.BadNumber) = Err BadNumber
-judged_by parts (Ok i) =
-    if list_any (λ (part : Part). part.beyond) parts then Err BadNumber
-    else if list_any (λ (part : Part). part.lost) parts then Err UnknownLabel
-    else Ok i
+-- what is read of a statement's four operands
+abbrev pub gathered : List Part → Operands
+gathered parts =
+    record {
+      args = map (λ (part : Part). part.operand) parts;
+      beyond = list_any (λ (part : Part). part.beyond) parts;
+      lost = list_any (λ (part : Part). part.lost) parts;
+    }
 
-abbrev pub fitted_by : Shape → ℕ → Option (List Part) → Result Insn ReadKind
+-- the four operands that stand in these texts
+unfoldable pub four_in : (List ℕ → Option ℕ) → Op → List (List ℕ) → Option Operands
+four_in target op texts = do
+  first ← next_part target op texts
+  second ← next_part target op first.1
+  third ← next_part target op second.1
+  fourth ← next_part target op third.1
+  if are_none fourth.1 then Some (gathered (first.0 ∷ second.0 ∷ third.0 ∷ fourth.0 ∷ [])) else None
+
+-- what is answered where the table takes these operands, or why it doesn't
+abbrev pub judged_by : Operands → Result Insn Misfit → Result Insn ReadKind
+judged_by operands (Err misfits.BadOperand) = Err BadOperand
+judged_by operands (Err misfits.BadNumber) = Err BadNumber
+judged_by operands (Ok i) = if operands.beyond then Err BadNumber else if operands.lost then Err UnknownLabel else Ok i
+
+abbrev pub fitted_by : Shape → ℕ → Option Operands → Result Insn ReadKind
 fitted_by shape line None = Err BadOperand
-fitted_by shape line (Some parts) = judged_by parts (fits_of shape (map (λ (part : Part). part.operand) parts) line)
+fitted_by shape line (Some operands) = judged_by operands (fits_of shape operands.args line)
 
 -- the instruction of this shape with these operands' texts
 unfoldable pub insn_with : (List ℕ → Option ℕ) → Shape → List (List ℕ) → ℕ → Result Insn ReadKind
 insn_with target shape texts line =
-    if list_any is_pool_part texts then Err PoolRefused
-    else fitted_by shape line (parts_in target shape.op 4 texts)
+    if list_any is_pool_part texts then Err PoolRefused else fitted_by shape line (four_in target shape.op texts)
 
 abbrev pub insn_by : (List ℕ → Option ℕ) → Option Shape → List (List ℕ) → ℕ → Result Insn ReadKind
 insn_by target None texts line = Err UnknownInstruction

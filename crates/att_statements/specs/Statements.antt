@@ -18,6 +18,10 @@ use Rattle.text_lines.specs.declared.refusal.ReadKind.{ReadKind}
 use Rattle.text_lines.specs.declared.refusal.ReadKind.TheVariants.{UnknownInstruction, PoolRefused, BadOperand, BadNumber, UnknownLabel}
 use Rattle.att_statements.specs.Operands.{Written, Immediate, Label, Plain, IsBetween, AreParts, IsOperandPart, IsPoolPart}
 
+-- the place that a look-up of labels gives
+abbrev pub LeadsTo : (List ℕ → Option ℕ) → List ℕ → ℕ → Type 0
+LeadsTo target name place = target name ≡ Some place
+
 -- mnemonics
 
 -- `rep` and then `ret` alone
