@@ -10,7 +10,11 @@ use Rattle.text_lines.specs.Words.{IsName, IsPadded}
 
 -- the value of a digit, decimal or hexadecimal, and 16 for any other byte
 abbrev pub digit_value : ℕ → ℕ
-digit_value b = if nat_le 48 b && nat_le b 57 then b - 48 else if nat_le 97 b && nat_le b 102 then b - 87 else if nat_le 65 b && nat_le b 70 then b - 55 else 16
+digit_value b =
+    if nat_le 48 b && nat_le b 57 then b - 48
+    else if nat_le 97 b && nat_le b 102 then b - 87
+    else if nat_le 65 b && nat_le b 70 then b - 55
+    else 16
 
 -- digits of this radix, at least one
 pub record AreDigits (radix : ℕ) (text : List ℕ) : Type 0 where
@@ -51,16 +55,20 @@ abbrev pub register_names : ℕ → List (List ℕ)
 register_names w =
     if w == 64 then
     codes "rax" ∷ codes "rcx" ∷ codes "rdx" ∷ codes "rbx" ∷ codes "rsp" ∷ codes "rbp" ∷ codes "rsi" ∷ codes "rdi"
-    ∷ codes "r8" ∷ codes "r9" ∷ codes "r10" ∷ codes "r11" ∷ codes "r12" ∷ codes "r13" ∷ codes "r14" ∷ codes "r15" ∷ []
+    ∷ codes "r8" ∷ codes "r9" ∷ codes "r10" ∷ codes "r11"
+      ∷ codes "r12" ∷ codes "r13" ∷ codes "r14" ∷ codes "r15" ∷ []
     else if w == 32 then
     codes "eax" ∷ codes "ecx" ∷ codes "edx" ∷ codes "ebx" ∷ codes "esp" ∷ codes "ebp" ∷ codes "esi" ∷ codes "edi"
-    ∷ codes "r8d" ∷ codes "r9d" ∷ codes "r10d" ∷ codes "r11d" ∷ codes "r12d" ∷ codes "r13d" ∷ codes "r14d" ∷ codes "r15d" ∷ []
+    ∷ codes "r8d" ∷ codes "r9d" ∷ codes "r10d" ∷ codes "r11d"
+      ∷ codes "r12d" ∷ codes "r13d" ∷ codes "r14d" ∷ codes "r15d" ∷ []
     else if w == 16 then
     codes "ax" ∷ codes "cx" ∷ codes "dx" ∷ codes "bx" ∷ codes "sp" ∷ codes "bp" ∷ codes "si" ∷ codes "di"
-    ∷ codes "r8w" ∷ codes "r9w" ∷ codes "r10w" ∷ codes "r11w" ∷ codes "r12w" ∷ codes "r13w" ∷ codes "r14w" ∷ codes "r15w" ∷ []
+    ∷ codes "r8w" ∷ codes "r9w" ∷ codes "r10w" ∷ codes "r11w"
+      ∷ codes "r12w" ∷ codes "r13w" ∷ codes "r14w" ∷ codes "r15w" ∷ []
     else if w == 8 then
     codes "al" ∷ codes "cl" ∷ codes "dl" ∷ codes "bl" ∷ codes "spl" ∷ codes "bpl" ∷ codes "sil" ∷ codes "dil"
-    ∷ codes "r8b" ∷ codes "r9b" ∷ codes "r10b" ∷ codes "r11b" ∷ codes "r12b" ∷ codes "r13b" ∷ codes "r14b" ∷ codes "r15b" ∷ []
+    ∷ codes "r8b" ∷ codes "r9b" ∷ codes "r10b" ∷ codes "r11b"
+      ∷ codes "r12b" ∷ codes "r13b" ∷ codes "r14b" ∷ codes "r15b" ∷ []
     else []
 
 -- `%` and the name of register n of w bits
@@ -90,7 +98,8 @@ abbrev pub AreParts : ℕ → List ℕ → List (List ℕ) → Type 0
 AreParts n text [] = ⊥
 AreParts n text (part ∷ []) = (text ≡ part) × IsUncut n part
 AreParts n text (part ∷ next ∷ parts) =
-    (rest : List ℕ) × (text ≡ part ++ 44 ∷ rest) × IsUncut n part × (open_after n part ≡ 0) × AreParts 0 rest (next ∷ parts)
+    (rest : List ℕ) × (text ≡ part ++ 44 ∷ rest) × IsUncut n part × (open_after n part ≡ 0)
+    × AreParts 0 rest (next ∷ parts)
 
 -- memory
 
@@ -113,7 +122,8 @@ IsBetween depth greatest true n = n ≤ depth
 abbrev pub IsDisplacement : List ℕ → ℤ → Type 0
 IsDisplacement text disp =
     ((text ≡ []) × (disp ≡ pos 0))
-    ⊎ ((negative : Bool) × (n : ℕ) × IsNumber text negative n × IsBetween (2 ^ 31) (2 ^ 31 - 1) negative n × (disp ≡ integer negative n))
+    ⊎ ((negative : Bool) × (n : ℕ) × IsNumber text negative n
+    × IsBetween (2 ^ 31) (2 ^ 31 - 1) negative n × (disp ≡ integer negative n))
 
 -- a 64-bit register, with blanks around it
 abbrev pub IsAddressRegister : List ℕ → ℕ → Type 0
@@ -189,9 +199,11 @@ pub data Written : Type 0 where
 
 -- the operand's text, without blanks around it, says this
 abbrev pub IsOperandText : List ℕ → Written → Type 0
-IsOperandText text (Immediate negative n) = (number : List ℕ) × (text ≡ codes "$" ++ number) × IsNumber number negative n
+IsOperandText text (Immediate negative n) =
+    (number : List ℕ) × (text ≡ codes "$" ++ number) × IsNumber number negative n
 IsOperandText text (Label name) = (text ≡ name) × IsLabelText name
-IsOperandText text (Plain operand) = ((n : ℕ) × (w : ℕ) × IsRegisterText text n w × (operand ≡ Reg n w)) ⊎ IsMemoryText text operand
+IsOperandText text (Plain operand) =
+    ((n : ℕ) × (w : ℕ) × IsRegisterText text n w × (operand ≡ Reg n w)) ⊎ IsMemoryText text operand
 
 -- the same of the text with blanks around it
 abbrev pub IsOperandPart : List ℕ → Written → Type 0

@@ -66,7 +66,8 @@ register_by w name = option_map (λ (n : ℕ). Reg n w) (register_number w name)
 
 -- the register with this name
 unfoldable pub register_named : List ℕ → Option Operand
-register_named name = option_or (register_by 64 name) (option_or (register_by 32 name) (option_or (register_by 16 name) (register_by 8 name)))
+register_named name =
+    option_or (register_by 64 name) (option_or (register_by 32 name) (option_or (register_by 16 name) (register_by 8 name)))
 
 -- commas
 
@@ -78,7 +79,8 @@ onto_first b (part ∷ parts) = (b ∷ part) ∷ parts
 -- the parts between commas outside parentheses, of which n are open
 unfoldable pub parts_from : ℕ → List ℕ → List (List ℕ)
 parts_from n [] = [] ∷ []
-parts_from n (b ∷ bs) = if (b == 44) && (n == 0) then [] ∷ parts_from 0 bs else onto_first b (parts_from (open_behind n b) bs)
+parts_from n (b ∷ bs) =
+    if (b == 44) && (n == 0) then [] ∷ parts_from 0 bs else onto_first b (parts_from (open_behind n b) bs)
 
 -- whether there is no text
 abbrev pub are_none : List (List ℕ) → Bool
@@ -95,7 +97,8 @@ parts_left (Some text) = parts_from 0 text
 -- what stands before this last byte
 unfoldable pub before_byte : ℕ → List ℕ → Option (List ℕ)
 before_byte byte text =
-    if nat_lt 0 (length text) && (slice_index text (length text - 1) == byte) then Some (take (length text - 1) text) else None
+    if nat_lt 0 (length text) && (slice_index text (length text - 1) == byte) then Some (take (length text - 1) text)
+    else None
 
 -- what stands before the first parenthesis, and inside it and one at the end
 unfoldable pub parenthesised : List ℕ → Option (List ℕ × List ℕ)
@@ -127,7 +130,8 @@ unfoldable pub index_of : List ℕ → Option (Option ℕ)
 index_of part = address_register part >>= (λ (n : ℕ). if n == 4 then None else Some (Some n))
 
 abbrev pub scale_by : List ℕ → Option ℕ
-scale_by (b ∷ []) = if b == 49 then Some 1 else if b == 50 then Some 2 else if b == 52 then Some 4 else if b == 56 then Some 8 else None
+scale_by (b ∷ []) =
+    if b == 49 then Some 1 else if b == 50 then Some 2 else if b == 52 then Some 4 else if b == 56 then Some 8 else None
 scale_by _ = None
 
 -- a scale, with blanks around it
@@ -144,7 +148,8 @@ address_of [] = None
 address_of (base ∷ []) = option_map (λ (n : ℕ). (Some n, None, 1)) (address_register base)
 address_of (base ∷ index ∷ []) = base_of base >>= λ b. option_map (λ i. (b, i, 1)) (index_of index)
 address_of (base ∷ index ∷ scale ∷ parts) =
-    if are_none parts then (base_of base >>= λ b. (index_of index >>= λ i. option_map (λ (s : ℕ). (b, i, s)) (scale_of scale))) else None
+    if are_none parts then (base_of base >>= λ b. (index_of index >>= λ i. option_map (λ (s : ℕ). (b, i, s)) (scale_of scale)))
+    else None
 
 -- memory, by what stands before and inside its parentheses
 unfoldable pub memory_of : List ℕ → List ℕ → Option Operand

@@ -45,12 +45,14 @@ no_part = record { operand = Nothing; beyond = false; lost = false }
 
 -- an immediate
 abbrev pub immediate_part : Op → Bool → ℕ → Part
-immediate_part op negative n = record { operand = Imm (word_of negative n); beyond = is_beyond op negative n; lost = false }
+immediate_part op negative n =
+    record { operand = Imm (word_of negative n); beyond = is_beyond op negative n; lost = false }
 
 -- the operand that is written so, whether its number is out of range, and whether its label leads nowhere
 abbrev pub part_of : (List ℕ → Option ℕ) → Op → Written → Part
 part_of target op (Immediate negative n) = immediate_part op negative n
-part_of target op (Label name) = record { operand = Target (unwrap_or (target name) 0); beyond = false; lost = is_none (target name) }
+part_of target op (Label name) =
+    record { operand = Target (unwrap_or (target name) 0); beyond = false; lost = is_none (target name) }
 part_of target op (Plain operand) = record { operand = operand; beyond = false; lost = false }
 
 -- the part that stands in a text
@@ -65,7 +67,8 @@ next_part target op (text ∷ texts) = option_map (λ part. (part, texts)) (part
 -- n parts, of which the last may be no operands
 abbrev pub parts_in : (List ℕ → Option ℕ) → Op → ℕ → List (List ℕ) → Option (List Part)
 parts_in target op zero texts = if are_none texts then Some [] else None
-parts_in target op (suc n) texts = next_part target op texts >>= λ next. option_map (λ parts. next.0 ∷ parts) (parts_in target op n next.1)
+parts_in target op (suc n) texts =
+    next_part target op texts >>= λ next. option_map (λ parts. next.0 ∷ parts) (parts_in target op n next.1)
 
 -- what is read of a statement's four operands
 abbrev pub gathered : List Part → Operands
@@ -107,4 +110,5 @@ insn_by target (Some shape) texts line = insn_with target shape texts line
 -- the instruction of the statement on this line, or the first kind of fault that it has
 unfoldable pub statement_of : (List ℕ → Option ℕ) → List ℕ → ℕ → Result Insn ReadKind
 statement_of target text line =
-    insn_by target (named general_rows (prefix_of is_solid (shown_of text))) (operands_of (behind_prefix is_solid (shown_of text))) line
+    insn_by target (named general_rows (prefix_of is_solid (shown_of text)))
+      (operands_of (behind_prefix is_solid (shown_of text))) line

@@ -34,7 +34,9 @@ IsReadAs text shown = (IsRepeatedReturn text × (shown ≡ codes "ret")) ⊎ ((I
 
 -- what follows a mnemonic is blank, without operands, or operands with commas between them
 abbrev pub AreOperands : List ℕ → List (List ℕ) → Type 0
-AreOperands text parts = ((list_all is_blank text ≡ true) × (parts ≡ [])) ⊎ ((list_all is_blank text ≡ false) × AreParts 0 text parts)
+AreOperands text parts =
+    ((list_all is_blank text ≡ true) × (parts ≡ []))
+    ⊎ ((list_all is_blank text ≡ false) × AreParts 0 text parts)
 
 -- the statement has this mnemonic and these operands' texts
 pub record HasParts (text mnemonic : List ℕ) (parts : List (List ℕ)) : Type 0 where
@@ -61,7 +63,9 @@ word_of true n = if nat_le n (2 ^ 63) then (2 ^ 64 - n) % 2 ^ 64 else 0
 -- the operand is what was written, with a label at its place; where a label has none, place 0 stands for it
 abbrev pub StandsFor : (List ℕ → ℕ → Type 0) → Written → Operand → Type 0
 StandsFor L (Immediate negative n) operand = operand ≡ Imm (word_of negative n)
-StandsFor L (Label name) operand = ((place : ℕ) × L name place × (operand ≡ Target place)) ⊎ (((place : ℕ) → L name place → ⊥) × (operand ≡ Target 0))
+StandsFor L (Label name) operand =
+    ((place : ℕ) × L name place × (operand ≡ Target place))
+    ⊎ (((place : ℕ) → L name place → ⊥) × (operand ≡ Target 0))
 StandsFor L (Plain plain) operand = operand ≡ plain
 
 -- the same of operand after operand
@@ -98,7 +102,8 @@ four operands = operands ++ replicate (4 - length operands) Nothing
 -- instructions
 
 -- The statement's mnemonic has this shape, and its operands, at most four, say this and stand for these.
-pub record IsMade (L : List ℕ → ℕ → Type 0) (text : List ℕ) (shape : Shape) (written : List Written) (operands : List Operand) : Type 0 where
+pub record IsMade (L : List ℕ → ℕ → Type 0) (text : List ℕ) (shape : Shape)
+    (written : List Written) (operands : List Operand) : Type 0 where
   pub mnemonic : List ℕ
   pub parts : List (List ℕ)
   pub has : HasParts text mnemonic parts
@@ -150,13 +155,15 @@ HasNoOperands parts = HasSuch (λ part. (w : Written) → IsOperandPart part w �
 abbrev pub IsLost : (List ℕ → ℕ → Type 0) → List ℕ → Type 0
 IsLost L part = (name : List ℕ) × IsOperandPart part (Label name) × ((place : ℕ) → L name place → ⊥)
 
+-- the statement has a mnemonic and operands' texts of which this holds
+abbrev pub HasPartsOf : (List ℕ → List (List ℕ) → Type 0) → List ℕ → Type 0
+HasPartsOf P text = (mnemonic : List ℕ) × (parts : List (List ℕ)) × HasParts text mnemonic parts × P mnemonic parts
+
 -- the statement has this fault, whatever else is wrong with it
 abbrev pub IsBadStatement : (List ℕ → ℕ → Type 0) → List ℕ → ReadKind → Type 0
-IsBadStatement L text UnknownInstruction = (mnemonic : List ℕ) × (parts : List (List ℕ)) × HasParts text mnemonic parts × (named general_rows mnemonic ≡ None)
-IsBadStatement L text PoolRefused = (mnemonic : List ℕ) × (parts : List (List ℕ)) × HasParts text mnemonic parts × HasSuch IsPoolPart parts
-IsBadStatement L text BadOperand =
-    ((mnemonic : List ℕ) × (parts : List (List ℕ)) × HasParts text mnemonic parts × HasNoOperands parts)
-    ⊎ IsMisfit L text misfits.BadOperand
+IsBadStatement L text UnknownInstruction = HasPartsOf (λ mnemonic parts. named general_rows mnemonic ≡ None) text
+IsBadStatement L text PoolRefused = HasPartsOf (λ mnemonic parts. HasSuch IsPoolPart parts) text
+IsBadStatement L text BadOperand = HasPartsOf (λ mnemonic parts. HasNoOperands parts) text ⊎ IsMisfit L text misfits.BadOperand
 IsBadStatement L text BadNumber = IsMisfit L text misfits.BadNumber ⊎ HasWideNumber L text
-IsBadStatement L text UnknownLabel = (mnemonic : List ℕ) × (parts : List (List ℕ)) × HasParts text mnemonic parts × HasSuch (IsLost L) parts
+IsBadStatement L text UnknownLabel = HasPartsOf (λ mnemonic parts. HasSuch (IsLost L) parts) text
 IsBadStatement L text _ = ⊥

@@ -133,7 +133,8 @@ fn insn_with<L: Labels>(
     line: u32,
     labels: &L,
 ) -> Result<Insn, ReadKind>
-    ensures { result ≡ insn_with (L.target labels.now) shape (parts_left (option_map (λ t. t.now) operands.entry)) line }
+    ensures { result
+        ≡ insn_with (L.target labels.now) shape (parts_left (option_map (λ t. t.now) operands.entry)) line }
 {
     if has_pool_part(operands) {
         return Err(ReadKind::PoolRefused);

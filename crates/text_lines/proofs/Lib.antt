@@ -3,3 +3,5 @@ pub mod Trimming
 pub mod LineItems
 pub mod TextLines
 pub mod TextItems
+pub mod CodeSteps
+pub mod TextFaults

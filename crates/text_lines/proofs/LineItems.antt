@@ -1,14 +1,14 @@
 -- Labels and statements of a line, both ways.
-use Rattle.std.proofs.Common.{◌≡◌, ◌≢◌, ℕ, zero, suc, ◌+◌, ◌<◌, ◌≤◌, Bool, true, false, cond, eqb, ◌&&◌, ◌||◌, ◌⊎◌, inl, inr, List, [], ◌∷◌, ◌++◌, length, Option, Some, None, refl, sym, ap, ◌∙◌, subst, append-nil, append_assoc, length-append, arith}
+use Rattle.std.proofs.Common.{◌≡◌, ◌≢◌, ℕ, zero, suc, ◌<◌, ◌≤◌, Bool, true, false, cond, eqb, ◌||◌, ◌⊎◌, inl, inr, List, [], ◌∷◌, ◌++◌, length, Option, Some, None, refl, sym, ap, ◌∙◌, subst, append-nil, append_assoc, length-append, arith}
 use Rattle.std.specs.List.{list_all}
 use Rattle.std.proofs.lemmas.Bool.{both_ways, and_parts, and_from, or_left, eqb-true}
 use Rattle.std.proofs.lemmas.List.Folds.{list_all-append}
 use Rattle.text_lines.specs.Bytes.{is_blank, is_name_start, is_name_byte}
 use Rattle.text_lines.specs.Words.{IsName, is_name, IsPadded, prefix_of, behind_prefix, trim}
-use Rattle.text_lines.specs.Lines.{Item, Label, Statement, is_visible, IsUncommented, IsLabelled, IsStated, AreSpelled, IsLine}
+use Rattle.text_lines.specs.Lines.{Item, Label, Statement, is_visible, IsUncommented, IsLabelled, AreSpelled, IsLine}
 use Rattle.text_lines.specs.Cutting.{visible_part, colon_behind, label_at, statement_items, items_by, items_from, items_left}
 use Rattle.text_lines.proofs.Prefixes.{prefix-whole}
-use Rattle.text_lines.proofs.Trimming.{behind-all, prefix-only, prefix-passes, behind-stops, trim-known, trim-only}
+use Rattle.text_lines.proofs.Trimming.{prefix-only, prefix-passes, behind-stops, trim-known, trim-only}
 
 -- names
 

@@ -1,7 +1,7 @@
 -- The items of whole texts, both ways, and their order.
-use Rattle.std.proofs.Common.{◌≡◌, ℕ, ◌+◌, ◌<◌, ◌≤◌, Bool, true, false, cond, ◌⊎◌, inl, inr, List, [], ◌∷◌, ◌++◌, length, take, Option, Some, None, refl, sym, ap, ◌∙◌, subst, append-nil, append_assoc, arith}
+use Rattle.std.proofs.Common.{◌≡◌, ℕ, ◌+◌, ◌≤◌, List, [], ◌∷◌, ◌++◌, refl, sym, ap, ◌∙◌, subst, arith}
 use Rattle.std.specs.Str.Lines.{lines}
-use Rattle.text_lines.specs.Lines.{Item, Label, Statement, IsLabelled, AreSpelled, IsLine, AreLines}
+use Rattle.text_lines.specs.Lines.{Item, Label, Statement, AreSpelled, AreLines}
 use Rattle.text_lines.specs.Texts.{AreItems}
 use Rattle.text_lines.specs.Cutting.{visible_part, items_left, items_at, items_of_text}
 use Rattle.text_lines.proofs.LineItems.{line-known, line-only}

@@ -1,8 +1,6 @@
 -- How texts are cut, as functions on lists.
-use Rattle.std.specs.Prelude.{ℕ, suc, zero, ◌+◌, ◌==◌, nat_lt, if◌then◌else◌, List, [], ◌∷◌, ◌++◌, length, take, Option, Some, None}
-use Rattle.std.specs.List.{count_by}
+use Rattle.std.specs.Prelude.{ℕ, suc, zero, ◌+◌, ◌==◌, if◌then◌else◌, List, [], ◌∷◌, ◌++◌, length, Option, Some, None}
 use Rattle.std.specs.Str.Lines.{lines, strip_carriage_return}
-use Rattle.std.specs.Str.Lossy.{utf8_valid_len}
 use Rattle.text_lines.specs.Bytes.{is_blank, is_name_byte}
 use Rattle.text_lines.specs.Words.{is_name, prefix_of, behind_prefix, trim}
 use Rattle.text_lines.specs.Lines.{Item, Label, Statement, is_visible}
@@ -26,11 +24,6 @@ line_of text (Some parts) = Some (strip_carriage_return parts.0, parts.1)
 -- the first line and what follows it
 unfoldable pub first_line : List ℕ → Option (List ℕ × List ℕ)
 first_line text = line_of text (cut_at 10 text)
-
--- the line of the first byte that makes the text no UTF-8
-unfoldable pub wrong_line : List ℕ → Option ℕ
-wrong_line text =
-    if nat_lt (utf8_valid_len text) (length text) then Some (count_by (λ b. b == 10) (take (utf8_valid_len text) text) + 1) else None
 
 -- the first long line, where lines are counted from k on
 unfoldable pub long_line : ℕ → List (List ℕ) → Option ℕ

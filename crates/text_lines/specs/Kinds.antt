@@ -27,3 +27,7 @@ line_number n = min n (2 ^ 32 - 1)
 -- a refusal at this line, counted from 1
 abbrev pub refusal : ℕ → ReadKind → ReadRefusal
 refusal line kind = record { line = line_number line; kind = kind }
+
+-- the refusal where memory was not found
+abbrev pub out_of_memory : ReadRefusal
+out_of_memory = record { line = 0; kind = Memory }

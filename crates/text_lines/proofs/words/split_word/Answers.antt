@@ -1,4 +1,4 @@
-use Rattle.std.proofs.Common.{◌∙◌, sym, ◌≡◌}
+use Rattle.std.proofs.Common.{◌∙◌, sym}
 use Rattle.text_lines.specs.Words.{is_solid}
 use Rattle.text_lines.proofs.Prefixes.{cut-ends, word-passes, word-fails, all-behind}
 use Rattle.text_lines.proofs.words.split_word.Goals as goal

@@ -1,4 +1,4 @@
-use Rattle.std.proofs.Common.{◌≡◌, ◌∙◌, sym, arith}
+use Rattle.std.proofs.Common.{◌∙◌, sym, arith}
 use Rattle.text_lines.proofs.Prefixes.{trim_end-before, trim_end-stays, trim_end-none}
 use Rattle.text_lines.proofs.words.trim_end.Goals as goal
 use Rattle.text_lines.proofs.words.trim_end.Goals.{then-loop-end-test+else-is_blank, else-loop-end-test}
