@@ -67,7 +67,8 @@ register_by w name = option_map (λ (n : ℕ). Reg n w) (register_number w name)
 -- the register with this name
 unfoldable pub register_named : List ℕ → Option Operand
 register_named name =
-    option_or (register_by 64 name) (option_or (register_by 32 name) (option_or (register_by 16 name) (register_by 8 name)))
+    option_or (register_by 64 name)
+    (option_or (register_by 32 name) (option_or (register_by 16 name) (register_by 8 name)))
 
 -- commas
 
@@ -148,7 +149,8 @@ address_of [] = None
 address_of (base ∷ []) = option_map (λ (n : ℕ). (Some n, None, 1)) (address_register base)
 address_of (base ∷ index ∷ []) = base_of base >>= λ b. option_map (λ i. (b, i, 1)) (index_of index)
 address_of (base ∷ index ∷ scale ∷ parts) =
-    if are_none parts then (base_of base >>= λ b. (index_of index >>= λ i. option_map (λ (s : ℕ). (b, i, s)) (scale_of scale)))
+    if are_none parts
+    then (base_of base >>= λ b. (index_of index >>= λ i. option_map (λ (s : ℕ). (b, i, s)) (scale_of scale)))
     else None
 
 -- memory, by what stands before and inside its parentheses

@@ -111,4 +111,4 @@ insn_by target (Some shape) texts line = insn_with target shape texts line
 unfoldable pub statement_of : (List ℕ → Option ℕ) → List ℕ → ℕ → Result Insn ReadKind
 statement_of target text line =
     insn_by target (named general_rows (prefix_of is_solid (shown_of text)))
-      (operands_of (behind_prefix is_solid (shown_of text))) line
+    (operands_of (behind_prefix is_solid (shown_of text))) line

@@ -163,7 +163,8 @@ HasPartsOf P text = (mnemonic : List ℕ) × (parts : List (List ℕ)) × HasPar
 abbrev pub IsBadStatement : (List ℕ → ℕ → Type 0) → List ℕ → ReadKind → Type 0
 IsBadStatement L text UnknownInstruction = HasPartsOf (λ mnemonic parts. named general_rows mnemonic ≡ None) text
 IsBadStatement L text PoolRefused = HasPartsOf (λ mnemonic parts. HasSuch IsPoolPart parts) text
-IsBadStatement L text BadOperand = HasPartsOf (λ mnemonic parts. HasNoOperands parts) text ⊎ IsMisfit L text misfits.BadOperand
+IsBadStatement L text BadOperand =
+    HasPartsOf (λ mnemonic parts. HasNoOperands parts) text ⊎ IsMisfit L text misfits.BadOperand
 IsBadStatement L text BadNumber = IsMisfit L text misfits.BadNumber ⊎ HasWideNumber L text
 IsBadStatement L text UnknownLabel = HasPartsOf (λ mnemonic parts. HasSuch (IsLost L) parts) text
 IsBadStatement L text _ = ⊥
