@@ -9,7 +9,7 @@ use Rattle.insn_table.specs.Table.{IsScale}
 use Rattle.text_lines.specs.Words.{IsPadded, trim}
 use Rattle.text_lines.proofs.Trimming.{trim-known, trim-only}
 use Rattle.att_statements.specs.Operands.{register_names, IsRegisterText, IsNumber, integer, IsBetween, IsDisplacement, IsAddressRegister, IsBase, IsIndex, IsScaleText, AreAddressParts, AreParts, IsParenthesised, IsMemoryText}
-use Rattle.att_statements.specs.ReadingOperands.{◌>>=◌, after_byte, number_of, small_integer, displacement_of, register_number, address_register, base_of, index_of, scale_by, scale_of, Address, address_of, parts_from, memory_of}
+use Rattle.att_statements.specs.ReadingOperands.{◌>>=◌, after_byte, number_of, small_integer, displacement_in, register_number, address_register, base_of, index_of, scale_by, scale_of, Address, address_in, parts_from, memory_of}
 use Rattle.att_statements.proofs.NumberTexts.{chosen_then, chosen_else, bind_some, map_some, after_byte-known, number-known, number-only}
 use Rattle.att_statements.proofs.RegisterTexts.{number-named, wide-named}
 use Rattle.att_statements.proofs.PartTexts.{parts-known, parts-only}
@@ -56,8 +56,8 @@ displacement-by text disp false some h =
     let small = small-known found.0.0 found.0.1 number.0 disp number.2 found.2 in
     inr (found.0.0, number.0, number.1, small.0, small.1)
 
-pub displacement-known : (text : List ℕ) (disp : ℤ) → displacement_of text ≡ Some disp → IsDisplacement text disp
-unfolding displacement_of
+pub displacement-known : (text : List ℕ) (disp : ℤ) → displacement_in text ≡ Some disp → IsDisplacement text disp
+unfolding displacement_in
 displacement-known text disp h = displacement-by text disp (eqb (length text) 0) refl h
 
 -- a text with a first byte isn't empty
@@ -69,8 +69,8 @@ some-text text true n (amount, is, a) = some-byte 45 amount text is
 some-text text false n (inl d) = let long = d.digits.some in ne_eqb (length text) 0 (λ e. omega arith)
 some-text text false n (inr d) = some-byte 48 (120 ∷ d.behind) text d.spelled
 
-pub displacement-only : (text : List ℕ) (disp : ℤ) → IsDisplacement text disp → displacement_of text ≡ Some disp
-unfolding displacement_of
+pub displacement-only : (text : List ℕ) (disp : ℤ) → IsDisplacement text disp → displacement_in text ≡ Some disp
+unfolding displacement_in
 displacement-only text disp (inl p) = rw p.0 (ap (λ (d : ℤ). Some d) (sym p.1))
 displacement-only text disp (inr (negative, n, number, between, means)) =
     let some = some-text text negative n number in
@@ -159,8 +159,8 @@ unfolding scale_of
 scale-only part s (digit, padded, is, scale) =
     ap scale_by (trim-only part (digit ∷ []) padded ∙ ap (λ (d : ℕ). d ∷ []) is) ∙ scale-digits s scale
 
-pub address-known : (parts : List (List ℕ)) (a : Address) → address_of parts ≡ Some a → AreAddressParts parts a.0 a.1 a.2
-unfolding address_of
+pub address-known : (parts : List (List ℕ)) (a : Address) → address_in parts ≡ Some a → AreAddressParts parts a.0 a.1 a.2
+unfolding address_in
 address-known [] a h = cc
 address-known (base ∷ []) a h =
     let p = map_some (address_register base) (λ (n : ℕ). (Some n, None, 1)) a h in
@@ -176,8 +176,8 @@ address-known (base ∷ index ∷ scale ∷ []) a h =
     subst (λ (x : Address). AreAddressParts (base ∷ index ∷ scale ∷ []) x.0 x.1 x.2) s.2 (base-known base b.0 b.1, index-known index i.0 i.1, scale-known scale s.0 s.1)
 address-known (base ∷ index ∷ scale ∷ more ∷ parts) a h = cc
 
-pub address-only : (parts : List (List ℕ)) (b i : Option ℕ) (s : ℕ) → AreAddressParts parts b i s → address_of parts ≡ Some (b, i, s)
-unfolding address_of
+pub address-only : (parts : List (List ℕ)) (b i : Option ℕ) (s : ℕ) → AreAddressParts parts b i s → address_in parts ≡ Some (b, i, s)
+unfolding address_in
 address-only [] b i s are = absurd are
 address-only (base ∷ []) b i s ((n, register, is), none, one) =
     let found = address_register-only base n register in rw (found, is, none, one) refl
@@ -195,8 +195,8 @@ address-only (base ∷ index ∷ scale ∷ more ∷ parts) b i s are = absurd ar
 pub memory-known : (text before inside : List ℕ) (o : Operand) → IsParenthesised text before inside → memory_of before inside ≡ Some o → IsMemoryText text o
 unfolding memory_of
 memory-known text before inside o spelled h =
-    let disp = bind_some (displacement_of before) (λ disp. address_of (parts_from 0 inside) >>= λ a. Some (Mem a.0 a.1 a.2 disp)) o h in
-    let a = bind_some (address_of (parts_from 0 inside)) (λ (a : Address). Some (Mem a.0 a.1 a.2 disp.0)) o disp.2 in
+    let disp = bind_some (displacement_in before) (λ disp. address_in (parts_from 0 inside) >>= λ a. Some (Mem a.0 a.1 a.2 disp)) o h in
+    let a = bind_some (address_in (parts_from 0 inside)) (λ (a : Address). Some (Mem a.0 a.1 a.2 disp.0)) o disp.2 in
     record {
       before = before;
       inside = inside;

@@ -468,7 +468,7 @@ misfit-from target L text line shape parts misfit r fits =
     }
 
 right-judged : (target : List ℕ → Option ℕ) (L : List ℕ → ℕ → Type 0) (text : List ℕ) (line : ℕ) (shape : Shape) (parts : List Part) (judged : Result Insn Misfit)
-    → AreRead target L text shape parts → fits_of shape (args_of parts) line ≡ judged → IsRight L text line (reading.judged_by (gathered parts) judged)
+    → AreRead target L text shape parts → fits_of shape (args_of parts) line ≡ judged → IsRight L text line (reading.answered_by (gathered parts) judged)
 right-judged target L text line shape parts (Ok i) r fits =
     right-made target L text line shape parts i (list_any is_wide parts) (list_any is_lost parts) r fits refl refl
 right-judged target L text line shape parts (Err misfits.BadOperand) r fits = (
@@ -543,7 +543,7 @@ statement-only target L text line i finds is =
     ap (λ (o : Option Shape). insn_by target o (texts_of text) line) row
     ∙ ap (λ (t : Bool). cond t (Err PoolRefused) (fitted_by is.shape line (four_in target is.shape.op (texts_of text)))) pool
     ∙ ap (fitted_by is.shape line) (four-parts target is.shape.op (texts_of text) ∙ ap (option_map gathered) read)
-    ∙ ap (reading.judged_by (gathered (padded 4 (all_parts target is.shape.op is.written)))) fits
+    ∙ ap (reading.answered_by (gathered (padded 4 (all_parts target is.shape.op is.written)))) fits
     ∙ ap (λ (t : Bool). cond t (Err BadNumber) (cond (list_any is_lost (padded 4 (all_parts target is.shape.op is.written))) (Err UnknownLabel) (Ok i))) wide
     ∙ ap (λ (t : Bool). cond t (Err UnknownLabel) (Ok i)) lost
 

@@ -115,8 +115,8 @@ small_integer number =
     else (if nat_lt number.1 (2 ^ 31) then Some (integer false number.1) else None)
 
 -- a displacement, which may be left out
-unfoldable pub displacement_of : List ℕ → Option ℤ
-displacement_of text = if length text == 0 then Some (pos 0) else (number_of text >>= small_integer)
+unfoldable pub displacement_in : List ℕ → Option ℤ
+displacement_in text = if length text == 0 then Some (pos 0) else (number_of text >>= small_integer)
 
 -- a 64-bit register, with blanks around it
 unfoldable pub address_register : List ℕ → Option ℕ
@@ -144,11 +144,11 @@ abbrev pub Address : Type 0
 Address = Option ℕ × Option ℕ × ℕ
 
 -- what stands inside the parentheses of memory
-unfoldable pub address_of : List (List ℕ) → Option Address
-address_of [] = None
-address_of (base ∷ []) = option_map (λ (n : ℕ). (Some n, None, 1)) (address_register base)
-address_of (base ∷ index ∷ []) = base_of base >>= λ b. option_map (λ i. (b, i, 1)) (index_of index)
-address_of (base ∷ index ∷ scale ∷ parts) =
+unfoldable pub address_in : List (List ℕ) → Option Address
+address_in [] = None
+address_in (base ∷ []) = option_map (λ (n : ℕ). (Some n, None, 1)) (address_register base)
+address_in (base ∷ index ∷ []) = base_of base >>= λ b. option_map (λ i. (b, i, 1)) (index_of index)
+address_in (base ∷ index ∷ scale ∷ parts) =
     if are_none parts
     then (base_of base >>= λ b. (index_of index >>= λ i. option_map (λ (s : ℕ). (b, i, s)) (scale_of scale)))
     else None
@@ -156,8 +156,8 @@ address_of (base ∷ index ∷ scale ∷ parts) =
 -- memory, by what stands before and inside its parentheses
 unfoldable pub memory_of : List ℕ → List ℕ → Option Operand
 memory_of before inside = do
-  disp ← displacement_of before
-  address ← address_of (parts_from 0 inside)
+  disp ← displacement_in before
+  address ← address_in (parts_from 0 inside)
   Some (Mem address.0 address.1 address.2 disp)
 
 -- symbols and labels

@@ -89,14 +89,14 @@ four_in target op texts = do
   if are_none fourth.1 then Some (gathered (first.0 ∷ second.0 ∷ third.0 ∷ fourth.0 ∷ [])) else None
 
 -- what is answered where the table takes these operands, or why it doesn't
-abbrev pub judged_by : Operands → Result Insn Misfit → Result Insn ReadKind
-judged_by operands (Err misfits.BadOperand) = Err BadOperand
-judged_by operands (Err misfits.BadNumber) = Err BadNumber
-judged_by operands (Ok i) = if operands.beyond then Err BadNumber else if operands.lost then Err UnknownLabel else Ok i
+abbrev pub answered_by : Operands → Result Insn Misfit → Result Insn ReadKind
+answered_by operands (Err misfits.BadOperand) = Err BadOperand
+answered_by operands (Err misfits.BadNumber) = Err BadNumber
+answered_by operands (Ok i) = if operands.beyond then Err BadNumber else if operands.lost then Err UnknownLabel else Ok i
 
 abbrev pub fitted_by : Shape → ℕ → Option Operands → Result Insn ReadKind
 fitted_by shape line None = Err BadOperand
-fitted_by shape line (Some operands) = judged_by operands (fits_of shape operands.args line)
+fitted_by shape line (Some operands) = answered_by operands (fits_of shape operands.args line)
 
 -- the instruction of this shape with these operands' texts
 unfoldable pub insn_with : (List ℕ → Option ℕ) → Shape → List (List ℕ) → ℕ → Result Insn ReadKind

@@ -2,7 +2,7 @@
 ghost use Rattle.std.specs.Prelude.{◌≡◌};
 ghost use Rattle.text_lines.specs.Bytes.{is_name_byte};
 ghost use Rattle.text_lines.specs.Words.{prefix_of, behind_prefix};
-ghost use Rattle.att_statements.specs.ReadingOperands.{small_integer, displacement_of, address_register, base_of, index_of, scale_of, address_of, parts_from, memory_of, is_offset, is_symbol, is_pool_part};
+ghost use Rattle.att_statements.specs.ReadingOperands.{small_integer, displacement_in, address_register, base_of, index_of, scale_of, address_in, parts_from, memory_of, is_offset, is_symbol, is_pool_part};
 
 use crate::cuts::{are_none, cut_part, parenthesised};
 use crate::numbers::{after_byte, decimal_of, number_of};
@@ -32,9 +32,9 @@ fn small_integer(number: (bool, u128)) -> Option<i32>
 }
 
 /// A displacement, which may be left out.
-#[tactic(auto, unfolding(crate::specs::ReadingOperands::displacement_of))]
-fn displacement_of(text: &[u8]) -> Option<i32>
-    ensures { result ≡ displacement_of text.now }
+#[tactic(auto, unfolding(crate::specs::ReadingOperands::displacement_in))]
+fn displacement_in(text: &[u8]) -> Option<i32>
+    ensures { result ≡ displacement_in text.now }
 {
     if text.is_empty() {
         return Some(0);
@@ -92,9 +92,9 @@ fn scale_of(part: &[u8]) -> Option<u8>
 }
 
 /// Base, index and scale, as they stand inside parentheses.
-#[tactic(auto, unfolding(crate::specs::ReadingOperands::address_of))]
-fn address_of(inside: &[u8]) -> Option<(Option<u8>, Option<u8>, u8)>
-    ensures { result ≡ address_of (parts_from 0 inside.now) }
+#[tactic(auto, unfolding(crate::specs::ReadingOperands::address_in))]
+fn address_in(inside: &[u8]) -> Option<(Option<u8>, Option<u8>, u8)>
+    ensures { result ≡ address_in (parts_from 0 inside.now) }
 {
     let (base, rest) = cut_part(inside);
     let Some(rest) = rest else {
@@ -122,8 +122,8 @@ fn address_of(inside: &[u8]) -> Option<(Option<u8>, Option<u8>, u8)>
 pub(crate) fn memory_of(before: &[u8], inside: &[u8]) -> Option<Operand>
     ensures { result ≡ memory_of before.now inside.now }
 {
-    let disp = displacement_of(before)?;
-    let (base, index, scale) = address_of(inside)?;
+    let disp = displacement_in(before)?;
+    let (base, index, scale) = address_in(inside)?;
     Some(Operand::Mem {
         base,
         index,

@@ -5,7 +5,7 @@ ghost use Rattle.std.specs.Option.{option_map};
 ghost use Rattle.insn_table.specs.Forms.{fits_of};
 ghost use Rattle.text_lines.specs.Bytes.{is_blank};
 ghost use Rattle.att_statements.specs.ReadingOperands.{parts_left, is_pool_part};
-ghost use Rattle.att_statements.specs.ReadingStatements.{is_repeated_return, shown_of, operands_of, next_part, four_in, judged_by, insn_with, statement_of};
+ghost use Rattle.att_statements.specs.ReadingStatements.{is_repeated_return, shown_of, operands_of, next_part, four_in, answered_by, insn_with, statement_of};
 
 use crate::cuts::{are_none, cut_part};
 use crate::memory::is_pool_part;
@@ -108,7 +108,7 @@ fn four_in<L: Labels>(operands: Option<&[u8]>, op: Op, labels: &L) -> Option<Ope
 
 /// The instruction that the table makes of these operands, or why it is none.
 fn judged(shape: Shape, operands: Operands, line: u32) -> Result<Insn, ReadKind>
-    ensures { result ≡ judged_by operands (fits_of shape operands.args line) }
+    ensures { result ≡ answered_by operands (fits_of shape operands.args line) }
 {
     match fits(shape, operands.args, line) {
         Err(Misfit::BadOperand) => Err(ReadKind::BadOperand),
