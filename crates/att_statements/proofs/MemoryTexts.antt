@@ -159,21 +159,24 @@ unfolding scale_of
 scale-only part s (digit, padded, is, scale) =
     ap scale_by (trim-only part (digit ∷ []) padded ∙ ap (λ (d : ℕ). d ∷ []) is) ∙ scale-digits s scale
 
+address-from : (parts : List (List ℕ)) (b i : Option ℕ) (s : ℕ) (a : Address) → (b, i, s) ≡ a → AreAddressParts parts b i s → AreAddressParts parts a.0 a.1 a.2
+address-from parts b i s a is are = subst (λ (x : Address). AreAddressParts parts x.0 x.1 x.2) is are
+
 pub address-known : (parts : List (List ℕ)) (a : Address) → address_in parts ≡ Some a → AreAddressParts parts a.0 a.1 a.2
 unfolding address_in
 address-known [] a h = cc
 address-known (base ∷ []) a h =
     let p = map_some (address_register base) (λ (n : ℕ). (Some n, None, 1)) a h in
-    subst (λ (x : Address). AreAddressParts (base ∷ []) x.0 x.1 x.2) p.2 ((p.0, address_register-known base p.0 p.1, refl), refl, refl)
+    address-from (base ∷ []) (Some p.0) None 1 a p.2 ((p.0, address_register-known base p.0 p.1, refl), refl, refl)
 address-known (base ∷ index ∷ []) a h =
     let b = bind_some (base_of base) (λ b. option_map (λ i. (b, i, 1)) (index_of index)) a h in
     let i = map_some (index_of index) (λ i. (b.0, i, 1)) a b.2 in
-    subst (λ (x : Address). AreAddressParts (base ∷ index ∷ []) x.0 x.1 x.2) i.2 (base-known base b.0 b.1, index-known index i.0 i.1, refl)
+    address-from (base ∷ index ∷ []) b.0 i.0 1 a i.2 (base-known base b.0 b.1, index-known index i.0 i.1, refl)
 address-known (base ∷ index ∷ scale ∷ []) a h =
     let b = bind_some (base_of base) (λ b. index_of index >>= λ i. option_map (λ (s : ℕ). (b, i, s)) (scale_of scale)) a h in
     let i = bind_some (index_of index) (λ i. option_map (λ (s : ℕ). (b.0, i, s)) (scale_of scale)) a b.2 in
     let s = map_some (scale_of scale) (λ (s : ℕ). (b.0, i.0, s)) a i.2 in
-    subst (λ (x : Address). AreAddressParts (base ∷ index ∷ scale ∷ []) x.0 x.1 x.2) s.2 (base-known base b.0 b.1, index-known index i.0 i.1, scale-known scale s.0 s.1)
+    address-from (base ∷ index ∷ scale ∷ []) b.0 i.0 s.0 a s.2 (base-known base b.0 b.1, index-known index i.0 i.1, scale-known scale s.0 s.1)
 address-known (base ∷ index ∷ scale ∷ more ∷ parts) a h = cc
 
 pub address-only : (parts : List (List ℕ)) (b i : Option ℕ) (s : ℕ) → AreAddressParts parts b i s → address_in parts ≡ Some (b, i, s)
