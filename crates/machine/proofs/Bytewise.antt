@@ -22,7 +22,7 @@ shifted_byte b k h low = shl_whole b 8 (8 * k) 64 h (omega arith) ∙ ap (λ (x 
 pub power_fits : (k : ℕ) → k < 8 → 256 ^ k * 256 ≤ 2 ^ 64
 power_fits k h = omega (arith, pow-suc 256 k, pow-le-pow_right {n = 256} (lit< tt) {i = suc k} {j = 8} (omega arith))
 
--- one byte more in front of a word of k bytes
+-- one byte more than a word of k bytes, as its highest
 pub byte_in_front : (w b p : ℕ) → w < p → b < 256 → w + b * p < p * 256
 byte_in_front w b p h low = grind arith
 

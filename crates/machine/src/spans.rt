@@ -71,7 +71,7 @@ fn byte_in(bytes: &[u8], at: usize) -> u8
     if at < bytes.len() { bytes[at] } else { 0 }
 }
 
-/// A word of `k` bytes with one more in front.
+/// A word of `k` bytes with one more as its highest.
 #[tactic(auto, using(crate::proofs::Bytewise::bytewise))]
 fn with_byte(word: u64, k: u32, byte: u8) -> u64
     requires place { k < 8 }

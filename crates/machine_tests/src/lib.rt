@@ -15,4 +15,6 @@ mod statements;
 #[cfg(test)]
 mod states;
 #[cfg(test)]
+mod stepping;
+#[cfg(test)]
 mod trials;

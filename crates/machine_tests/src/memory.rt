@@ -1,7 +1,9 @@
 //! Accesses at the ends of regions, addresses, and what is written.
 
-use crate::statements::{AT_RCX, COMPARE, EAX, NONE, RAX, RCX, memory_at, one, register, two};
-use crate::trials::{end_of, outcome, word_after};
+use crate::statements::{
+    AT_RCX, COMPARE, EAX, NO_MORE, NONE, RAX, RCX, memory_at, one, register, two,
+};
+use crate::trials::{Sight, Trial, first_wrong, make_trial, seeing};
 use insn_table::{Operand, Statement};
 use machine::RunEnd;
 use std::test::Fail;
@@ -11,87 +13,143 @@ const LAST: u64 = 0xFFFF_FFFF_FFFF_FFFF;
 /// The eight bytes 0x11 that each region begins with.
 const ELEVENS: u64 = 0x1111_1111_1111_1111;
 
-/// A statement, the address in `%rcx`, and whether its access is allowed.
-type Row = (Statement<'static>, u64, bool);
-
-/// Accesses at the ends of one region, over regions side by side, and at the last address.
-fn accesses() -> [Row; 24] {
-    let add = two(b"addl", EAX, AT_RCX);
-    let load = two(b"movl", AT_RCX, EAX);
-    let (al, ax, rax) = (register(RAX, 8), register(RAX, 16), register(RAX, 64));
-    let (load_b, store_b) = (two(b"movb", AT_RCX, al), two(b"movb", al, AT_RCX));
-    let (load_w, store_w) = (two(b"movw", AT_RCX, ax), two(b"movw", ax, AT_RCX));
-    let (load_q, store_q) = (two(b"movq", AT_RCX, rax), two(b"movq", rax, AT_RCX));
-    [
-        (add, 4096, true),
-        (add, 4108, true),
-        (add, 4095, false),
-        (add, 4109, false),
-        (add, LAST, false),
-        // an access wants one region that has all of it
-        (load, 4132, true),
-        (load, 4134, false),
-        (load, 4136, true),
-        (load, 4166, true),
-        (load, 4173, false),
-        // the region that ends at the last address
-        (load_b, LAST, true),
-        (store_b, LAST, true),
-        (load_b, 0, false),
-        (store_b, 0, false),
-        (load_b, LAST - 16, false),
-        (store_b, LAST - 16, false),
-        (load_w, LAST - 1, true),
-        (store_w, LAST - 1, true),
-        (load_w, LAST, false),
-        (store_w, LAST, false),
-        (load_q, LAST - 7, true),
-        (store_q, LAST - 7, true),
-        (load_q, LAST - 6, false),
-        (store_q, LAST - 6, false),
-    ]
-}
-
-/// Accesses to the region that may be read alone.
-fn reads_and_writes() -> [Row; 8] {
-    [
-        (two(b"movl", AT_RCX, EAX), 4192, true),
-        (two(b"addl", AT_RCX, EAX), 4192, true),
-        (two(b"cmpl", EAX, AT_RCX), 4192, true),
-        (two(b"testl", EAX, AT_RCX), 4192, true),
-        (two(b"movl", EAX, AT_RCX), 4192, false),
-        (two(b"addl", EAX, AT_RCX), 4192, false),
-        (one(b"notl", AT_RCX), 4192, false),
-        (one(b"shll", AT_RCX), 4192, false),
-    ]
-}
-
-/// How the run of one statement and a return ends.
-fn end_where(allowed: bool) -> RunEnd {
-    if allowed {
+/// A statement with an address in `%rcx`, and whether its access is allowed.
+fn access(statement: Statement<'static>, at: u64, allowed: bool) -> Trial {
+    let end = if allowed {
         RunEnd::Returned(2)
     } else {
         RunEnd::Faulted(1)
-    }
+    };
+    make_trial([statement, NO_MORE, NO_MORE], 0, at, end)
+}
+
+/// Accesses at the ends of one region, and over regions side by side.
+fn accesses() -> [Trial; 10] {
+    let add = two(b"addl", EAX, AT_RCX);
+    let load = two(b"movl", AT_RCX, EAX);
+    [
+        access(add, 4096, true),
+        access(add, 4108, true),
+        access(add, 4095, false),
+        access(add, 4109, false),
+        access(add, LAST, false),
+        // an access wants one region that has all of it
+        access(load, 4132, true),
+        access(load, 4134, false),
+        access(load, 4136, true),
+        access(load, 4166, true),
+        access(load, 4173, false),
+    ]
+}
+
+/// A load and a store of so many bits around the last address.
+fn around_the_end(mnemonic: &'static [u8], w: u32, at: u64, allowed: bool) -> [Trial; 2] {
+    let part = register(RAX, w);
+    [
+        access(two(mnemonic, AT_RCX, part), at, allowed),
+        access(two(mnemonic, part, AT_RCX), at, allowed),
+    ]
 }
 
 #[test]
 fn an_access_lies_in_one_region(rt: HostRuntime) -> Result<(), Fail> {
-    for (statement, at, allowed) in accesses() {
-        let end = end_of(rt.alloc(), &[statement], 0, at)?;
-        assert_eq!(rt; end, end_where(allowed), "at {at}");
+    assert_eq!(rt; first_wrong(rt.alloc(), &accesses())?, None);
+    for (mnemonic, w, at, allowed) in [
+        (b"movb", 8, LAST, true),
+        (b"movb", 8, 0, false),
+        (b"movb", 8, LAST - 16, false),
+        (b"movw", 16, LAST - 1, true),
+        (b"movw", 16, LAST, false),
+        (b"movq", 64, LAST - 7, true),
+        (b"movq", 64, LAST - 6, false),
+    ] {
+        let wrong = first_wrong(rt.alloc(), &around_the_end(mnemonic, w, at, allowed))?;
+        assert_eq!(rt; wrong, None, "at {at}");
     }
     Ok(())
 }
 
+/// An access to the region that may be read alone, which stays.
+fn reads(statement: Statement<'static>, allowed: bool) -> Trial {
+    seeing(access(statement, 4192, allowed), Sight::Word(4192), ELEVENS)
+}
+
+fn reads_and_writes() -> [Trial; 8] {
+    [
+        reads(two(b"movl", AT_RCX, EAX), true),
+        reads(two(b"addl", AT_RCX, EAX), true),
+        reads(two(b"cmpl", EAX, AT_RCX), true),
+        reads(two(b"testl", EAX, AT_RCX), true),
+        reads(two(b"movl", EAX, AT_RCX), false),
+        reads(two(b"addl", EAX, AT_RCX), false),
+        reads(one(b"notl", AT_RCX), false),
+        reads(one(b"shll", AT_RCX), false),
+    ]
+}
+
+/// A load of four bytes and the address of a memory operand that names 4096.
+fn addresses(from: Operand, rax: u64, rcx: u64) -> [Trial; 2] {
+    let load = two(b"movl", from, EAX);
+    let address = two(b"leaq", from, register(RAX, 64));
+    let loaded = make_trial([load, NO_MORE, NO_MORE], rax, rcx, RunEnd::Returned(2));
+    let addressed = make_trial([address, NO_MORE, NO_MORE], rax, rcx, RunEnd::Returned(2));
+    [
+        seeing(loaded, Sight::Rax, 0x1111_1111),
+        seeing(addressed, Sight::Rax, 4096),
+    ]
+}
+
 #[test]
-fn a_region_that_may_be_read_alone_stays(rt: HostRuntime) -> Result<(), Fail> {
-    for (statement, at, allowed) in reads_and_writes() {
-        let end = end_of(rt.alloc(), &[statement], 0, at)?;
-        assert_eq!(rt; end, end_where(allowed));
-        let word = word_after(rt.alloc(), &[statement], 0, at, at)?;
-        assert_eq!(rt; word, ELEVENS);
+fn sums_of_addresses_wrap(rt: HostRuntime) -> Result<(), Fail> {
+    let scaled = Operand::Mem {
+        base: Some(RCX),
+        index: Some(RAX),
+        scale: 8,
+        disp: 8,
+    };
+    for (from, rax, rcx) in [
+        (memory_at(RCX, 4104), 0, LAST - 7),
+        (memory_at(RCX, -16), 0, 4112),
+        (scaled, 0x2000_0000_0000_0000, 4088),
+        (scaled, LAST, 4096),
+    ] {
+        let wrong = first_wrong(rt.alloc(), &addresses(from, rax, rcx))?;
+        assert_eq!(rt; wrong, None);
     }
+    Ok(())
+}
+
+/// 8(%rcx) into a part of `%rax`.
+fn load(mnemonic: &'static [u8], w: u32, rax: u64) -> Trial {
+    let load = two(mnemonic, memory_at(RCX, 8), register(RAX, w));
+    let ended = make_trial([load, NO_MORE, NO_MORE], LAST, 4096, RunEnd::Returned(2));
+    seeing(seeing(ended, Sight::Rax, rax), Sight::EntryRax, LAST)
+}
+
+/// A sum of memory, 0x11111111 + 0xFF, which is 0x11111210.
+fn sum(sight: Sight, value: u64) -> Trial {
+    let add = two(b"addl", EAX, AT_RCX);
+    let rax = 0x1_0000_00FF;
+    let ended = make_trial([add, NO_MORE, NO_MORE], rax, 4108, RunEnd::Returned(2));
+    seeing(seeing(ended, Sight::Rax, rax), sight, value)
+}
+
+fn writes() -> [Trial; 7] {
+    [
+        load(b"movb", 8, 0xFFFF_FFFF_FFFF_FF11),
+        load(b"movw", 16, 0xFFFF_FFFF_FFFF_1111),
+        load(b"movl", 32, 0x1111_1111),
+        load(b"movq", 64, ELEVENS),
+        sum(Sight::Word(4104), 0x1111_1210_1111_1111),
+        sum(Sight::Word(4112), ELEVENS),
+        sum(Sight::Place, 1),
+    ]
+}
+
+#[test]
+fn what_is_written_and_what_stays(rt: HostRuntime) -> Result<(), Fail> {
+    assert_eq!(rt; first_wrong(rt.alloc(), &reads_and_writes())?, None);
+    assert_eq!(rt; first_wrong(rt.alloc(), &writes())?, None);
     Ok(())
 }
 
@@ -142,14 +200,14 @@ fn other_rows() -> Classes {
     ]
 }
 
-/// The addresses around the ends of the region from 4096 to 4111, and how an access of so many bytes
-/// ends there behind a comparison.
-fn ends(bytes: u64) -> [(u64, RunEnd); 4] {
+/// An access of so many bytes around the ends of the region from 4096 to 4111, behind a comparison.
+fn at_the_ends(statement: Statement<'static>, bytes: u64) -> [Trial; 4] {
+    let body = [COMPARE, statement, NO_MORE];
     [
-        (4095, RunEnd::Faulted(2)),
-        (4096, RunEnd::Returned(3)),
-        (4112u64.wrapping_sub(bytes), RunEnd::Returned(3)),
-        (4113u64.wrapping_sub(bytes), RunEnd::Faulted(2)),
+        make_trial(body, 0, 4095, RunEnd::Faulted(2)),
+        make_trial(body, 0, 4096, RunEnd::Returned(3)),
+        make_trial(body, 0, 4112u64.wrapping_sub(bytes), RunEnd::Returned(3)),
+        make_trial(body, 0, 4113u64.wrapping_sub(bytes), RunEnd::Faulted(2)),
     ]
 }
 
@@ -157,71 +215,15 @@ fn ends(bytes: u64) -> [(u64, RunEnd); 4] {
 fn memory_of_each_class_at_the_ends_of_a_region(rt: HostRuntime) -> Result<(), Fail> {
     for classes in [moves_and_sums(), other_rows()] {
         for (statement, bytes) in classes {
-            for (at, end) in ends(bytes) {
-                let ended = end_of(rt.alloc(), &[COMPARE, statement], 0, at)?;
-                assert_eq!(rt; ended, end, "{bytes} bytes at {at}");
-            }
+            let wrong = first_wrong(rt.alloc(), &at_the_ends(statement, bytes))?;
+            assert_eq!(rt; wrong, None);
         }
     }
     // lea makes no access
-    let (end, seen) = outcome(rt.alloc(), &[two(b"leal", AT_RCX, EAX)], 0, 5)?;
-    assert_eq!(rt; (end, seen.rax), (RunEnd::Returned(2), 5));
-    Ok(())
-}
-
-#[test]
-fn sums_of_addresses_wrap(rt: HostRuntime) -> Result<(), Fail> {
-    let scaled = Operand::Mem {
-        base: Some(RCX),
-        index: Some(RAX),
-        scale: 8,
-        disp: 8,
-    };
-    for (from, rax, rcx) in [
-        (memory_at(RCX, 4104), 0, LAST - 7),
-        (memory_at(RCX, -16), 0, 4112),
-        (scaled, 0x2000_0000_0000_0000, 4088),
-        (scaled, LAST, 4096),
-    ] {
-        for (statement, result) in [
-            (two(b"movl", from, EAX), 0x1111_1111),
-            (two(b"leaq", from, register(RAX, 64)), 4096),
-        ] {
-            let (end, seen) = outcome(rt.alloc(), &[statement], rax, rcx)?;
-            assert_eq!(rt; (end, seen.rax), (RunEnd::Returned(2), result));
-        }
-    }
-    Ok(())
-}
-
-#[test]
-fn writes_of_each_width(rt: HostRuntime) -> Result<(), Fail> {
-    // 8(%rcx) into a part of %rax
-    for (mnemonic, w, rax) in [
-        (b"movb", 8, 0xFFFF_FFFF_FFFF_FF11),
-        (b"movw", 16, 0xFFFF_FFFF_FFFF_1111),
-        (b"movl", 32, 0x1111_1111),
-        (b"movq", 64, 0x1111_1111_1111_1111),
-    ] {
-        let load = two(mnemonic, memory_at(RCX, 8), register(RAX, w));
-        let (end, seen) = outcome(rt.alloc(), &[load], LAST, 4096)?;
-        let seen = (end, seen.rax, seen.entry_rax);
-        assert_eq!(rt; seen, (RunEnd::Returned(2), rax, LAST));
-    }
-    Ok(())
-}
-
-#[test]
-fn a_sum_in_memory_leaves_its_neighbours(rt: HostRuntime) -> Result<(), Fail> {
-    // addl %eax,(%rcx): 0x11111111 + 0xFF is 0x11111210
-    let add = two(b"addl", EAX, AT_RCX);
-    let rax = 0x1_0000_00FF;
-    for (at, word) in [(4104, 0x1111_1210_1111_1111), (4112, ELEVENS)] {
-        let after = word_after(rt.alloc(), &[add], rax, 4108, at)?;
-        assert_eq!(rt; after, word);
-    }
-    let (end, seen) = outcome(rt.alloc(), &[add], rax, 4108)?;
-    let seen = (end, seen.place, seen.rax);
-    assert_eq!(rt; seen, (RunEnd::Returned(2), 1, rax));
+    let address = access(two(b"leal", AT_RCX, EAX), 5, true);
+    assert_eq!(rt;
+        first_wrong(rt.alloc(), &[seeing(address, Sight::Rax, 5)])?,
+        None
+    );
     Ok(())
 }

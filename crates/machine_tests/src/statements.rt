@@ -26,22 +26,28 @@ pub const COMPARE: Statement<'static> = Statement {
     args: [EAX, EAX, NONE, NONE],
 };
 
+/// No statement, behind those of a body.
+pub const NO_MORE: Statement<'static> = Statement {
+    mnemonic: b"",
+    args: [NONE; 4],
+};
+
 /// A statement with no operand.
-pub fn none(mnemonic: &'static [u8]) -> Statement<'static> {
+pub(crate) fn none(mnemonic: &'static [u8]) -> Statement<'static> {
     Statement {
         mnemonic,
         args: [NONE; 4],
     }
 }
 
-pub fn one(mnemonic: &'static [u8], first: Operand) -> Statement<'static> {
+pub(crate) fn one(mnemonic: &'static [u8], first: Operand) -> Statement<'static> {
     Statement {
         mnemonic,
         args: [first, NONE, NONE, NONE],
     }
 }
 
-pub fn two(mnemonic: &'static [u8], first: Operand, second: Operand) -> Statement<'static> {
+pub(crate) fn two(mnemonic: &'static [u8], first: Operand, second: Operand) -> Statement<'static> {
     Statement {
         mnemonic,
         args: [first, second, NONE, NONE],
@@ -49,12 +55,12 @@ pub fn two(mnemonic: &'static [u8], first: Operand, second: Operand) -> Statemen
 }
 
 /// Register `n` of `w` bits.
-pub fn register(n: u8, w: u32) -> Operand {
+pub(crate) fn register(n: u8, w: u32) -> Operand {
     Operand::Reg { n, w }
 }
 
 /// Memory at a register and a displacement.
-pub fn memory_at(base: u8, disp: i32) -> Operand {
+pub(crate) fn memory_at(base: u8, disp: i32) -> Operand {
     Operand::Mem {
         base: Some(base),
         index: None,

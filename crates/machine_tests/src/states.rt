@@ -16,7 +16,7 @@ fn region(base: u64, len: u64, write: bool) -> Region
 /// `%rsp`. From 4096 to 4111 stands one region. From 4128 and from 4136 stand two of 8 bytes side by
 /// side, and again from 4160 and from 4168, where a third stands over both. From 4192 to 4207 stands
 /// one that may be read alone, and one has the last 16 bytes below 2^64.
-pub fn start(alloc: Global, rax: u64, rcx: u64) -> Result<State, Fail>
+pub(crate) fn start(alloc: Global, rax: u64, rcx: u64) -> Result<State, Fail>
     ensures { IfOk result (λ s. s.place ≡ 0) }
 {
     let mut regs = [0; 16];
