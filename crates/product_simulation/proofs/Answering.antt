@@ -1,11 +1,11 @@
 -- One run answers another, by moves that both make, over states of any kind. No product occurs here.
-use Rattle.std.proofs.Common.{◌≡◌, ℕ, zero, suc, ◌+◌, ◌-◌, ◌*◌, ◌<◌, ◌≤◌, ◌⊎◌, inl, inr, refl, sym, ◌∙◌, ap, subst, add-zero, add-suc, nat_lt, Bool, true, false, arith}
+use Rattle.std.proofs.Common.{◌≡◌, ℕ, zero, suc, ◌+◌, ◌-◌, ◌*◌, ◌<◌, ◌≤◌, refl, sym, ◌∙◌, ap, subst, nat_lt, Bool, true, false, arith}
 use Rattle.std.proofs.Math.Nat.{add-mul}
 use borrow.Author.Tests.{ltb-true, ltb-false}
 use Rattle.runs.specs.Run.{IsOver, Run, Step, later, run_of}
 use Rattle.runs.specs.declared.ends.RunEnd.{RunEnd}
 use Rattle.runs.specs.declared.ends.RunEnd.TheVariants.{Returned, Faulted, Unset, Running}
-use Rattle.runs.proofs.Runs.{faulted_stays, returned_stays, run-from, same_end_of_both, stays_over, unset_stays}
+use Rattle.runs.proofs.Runs.{faulted_stays, returned_stays, run-from, same_end_of_both, unset_stays}
 
 -- the run returns within n steps, with the same end as x
 pub record ReturnsAs {S : Type 0} (g : S → Step S) (same : S → S → Type 0) (b : S) (n : ℕ) (x : S) : Type 0 where

@@ -1,8 +1,8 @@
 -- Chains of equivalences, over states and functions of any kind.
-use Rattle.std.proofs.Common.{◌≡◌, ℕ, ◌+◌, ◌*◌, ◌<◌, ◌≤◌, List, [], ◌∷◌, length, fold, map, max, refl, sym, ◌∙◌, ap, subst, arith}
-use Rattle.std.proofs.Math.Nat.{add-mul, max-zero, mul-add, mul-le-mul_left, mul_assoc, mul_comm, zero-max, zero-mul}
+use Rattle.std.proofs.Common.{◌≡◌, ℕ, ◌+◌, ◌*◌, ◌<◌, ◌≤◌, List, [], ◌∷◌, length, fold, max, sym, ◌∙◌, ap, subst, arith}
+use Rattle.std.proofs.Math.Nat.{add-mul, mul-add, mul-le-mul_left, mul_assoc, mul_comm, zero-max, zero-mul}
 use Rattle.runs.specs.Equivalent.{AreEquivalent, Follows}
-use Rattle.runs.specs.Run.{Run, Step, end_of, run_of}
+use Rattle.runs.specs.Run.{Run, Step, run_of}
 use Rattle.runs.specs.declared.ends.RunEnd.TheVariants.{Returned, Faulted}
 use Rattle.runs.proofs.Runs.{faulted_stays, returned_stays, run_by_end}
 use Rattle.products.specs.Bounds.{composed_bound, joined_bound}
@@ -30,13 +30,17 @@ follows_joined : {S : Type 0} (k l bound : ℕ) (f g h : S → Step S) (s : S) �
     → ((n : ℕ) → l * (k * (n + 1) + 1) ≤ bound * (n + 1)) → Follows bound f h s
 follows_joined k l bound f g h s first second within = record {
   returned = λ n i is. (let there = first.returned n i is in
-      let beyond = second.returned (k * (n + 1)) there.0 there.1 in
-      (beyond.0, ap (λ (r : Run _). r.1) (returned_stays h s (run_of h s (l * (k * (n + 1) + 1))).0 beyond.0 (l * (k * (n + 1) + 1)) (bound * (n + 1)) (within n)
-          (run_by_end h s (l * (k * (n + 1) + 1)) (Returned beyond.0) beyond.1))));
+      let beyond = second.returned (k * (n + 1)) there.0 there.1 in (
+        beyond.0,
+        ap (λ (r : Run _). r.1) (returned_stays h s (run_of h s (l * (k * (n + 1) + 1))).0 beyond.0 (l * (k * (n + 1) + 1)) (bound * (n + 1)) (within n)
+            (run_by_end h s (l * (k * (n + 1) + 1)) (Returned beyond.0) beyond.1)),
+      ));
   faulted = λ n i is. (let there = first.faulted n i is in
-      let beyond = second.faulted (k * (n + 1)) there.0 there.1 in
-      (beyond.0, ap (λ (r : Run _). r.1) (faulted_stays h s (run_of h s (l * (k * (n + 1) + 1))).0 beyond.0 (l * (k * (n + 1) + 1)) (bound * (n + 1)) (within n)
-          (run_by_end h s (l * (k * (n + 1) + 1)) (Faulted beyond.0) beyond.1))));
+      let beyond = second.faulted (k * (n + 1)) there.0 there.1 in (
+        beyond.0,
+        ap (λ (r : Run _). r.1) (faulted_stays h s (run_of h s (l * (k * (n + 1) + 1))).0 beyond.0 (l * (k * (n + 1) + 1)) (bound * (n + 1)) (within n)
+            (run_by_end h s (l * (k * (n + 1) + 1)) (Faulted beyond.0) beyond.1)),
+      ));
   no_unset = first.no_unset;
 }
 
@@ -45,7 +49,7 @@ joined_bound-none l = let none : 0 * l ≡ 0 = zero-mul l in let most : max 0 l 
 
 module _ {S F : Type 0} (starts : S → Type 0) (same : S → S → Type 0) (step : F → S → Step S)
     (joins : (s : S) (f g h : F) (n m o : ℕ) → same (run_of (step f) s n).0 (run_of (step g) s m).0
-      → same (run_of (step g) s m).0 (run_of (step h) s o).0 → same (run_of (step f) s n).0 (run_of (step h) s o).0) where
+    → same (run_of (step g) s m).0 (run_of (step h) s o).0 → same (run_of (step f) s n).0 (run_of (step h) s o).0) where
   -- Equivalent within k, and from there equivalent within l: together equivalent within the joined bound.
   pub equivalent_joined : (k l : ℕ) (f g h : F) → AreEquivalent starts same k (step f) (step g) → AreEquivalent starts same l (step g) (step h)
       → AreEquivalent starts same (joined_bound k l) (step f) (step h)

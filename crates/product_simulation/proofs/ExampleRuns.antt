@@ -1,15 +1,12 @@
 -- The products of the examples: what holds of them, and how their functions run.
-use Rattle.std.proofs.Common.{◌≡◌, ◌≢◌, ℕ, zero, suc, ◌+◌, ◌*◌, ◌<◌, ◌≤◌, ◌⊎◌, inl, inr, All, List, [], ◌∷◌, length, Some, refl, sym, ◌∙◌, ap, subst, lit<, arith}
+use Rattle.std.proofs.Common.{◌≡◌, ◌≢◌, ℕ, zero, suc, ◌+◌, ◌*◌, ◌<◌, inl, All, List, [], ◌∷◌, refl, sym, ◌∙◌, ap, lit<, arith}
 use Rattle.std.specs.List.{AllByRecursion}
 use Rattle.std.proofs.lemmas.List.Elements.{All-cons, All-nil}
 use Rattle.runs.specs.Equivalent.{AreEquivalent}
-use Rattle.runs.specs.Run.{Run, Step, run_of, end_of, stepped}
-use Rattle.runs.specs.declared.ends.RunEnd.{RunEnd}
+use Rattle.runs.specs.Run.{Run, run_of, stepped}
 use Rattle.runs.specs.declared.ends.RunEnd.TheVariants.{Returned, Running}
-use Rattle.products.specs.declared.product.PEdge.{PEdge}
-use Rattle.products.specs.declared.product.PNode.{PNode}
-use Rattle.products.specs.Ranks.{HasLowRanks, LowersRanks, RanksFall, bound_of, longest_path}
-use Rattle.product_simulation.specs.Examples.{AnyEnd, IsAtEntry, StandingRelated, AtPlaces, WaitingRelated, circle_edge, edge_of, endless_step, entry_edge, node_at, quick_step, slow_step, standing_product, waiting_product}
+use Rattle.products.specs.Ranks.{HasLowRanks, LowersRanks, RanksFall, longest_path}
+use Rattle.product_simulation.specs.Examples.{AnyEnd, IsAtEntry, StandingRelated, WaitingRelated, circle_edge, edge_of, endless_step, entry_edge, node_at, quick_step, slow_step, standing_product, waiting_product}
 use Rattle.product_simulation.specs.Leads.{EdgesLead, LeadsOn}
 
 low_node : (n : ℕ) (left right rank : ℕ) → rank < n → HasLowRanks n (node_at left right rank)
@@ -25,10 +22,13 @@ waiting_falls = record {
   two = lit< tt;
   low = each (HasLowRanks 4) waiting_product.nodes
       (low_node 4 0 0 2 (lit< tt), (low_node 4 0 0 0 (lit< tt), (low_node 4 0 1 1 (lit< tt), (low_node 4 0 2 0 (lit< tt), tt))));
-  lowers = each (LowersRanks waiting_product.nodes) waiting_product.edges
-      (record { target = lit< tt; left = λ e. lit< tt; right = λ e. absurd (cc) },
-      (record { target = lit< tt; left = λ e. lit< tt; right = λ e. absurd (cc) },
-      (record { target = lit< tt; left = λ e. absurd (cc); right = λ e. absurd (cc) }, tt)));
+  lowers = each (LowersRanks waiting_product.nodes) waiting_product.edges (
+    record { target = lit< tt; left = λ e. lit< tt; right = λ e. absurd (cc) },
+    (
+      record { target = lit< tt; left = λ e. lit< tt; right = λ e. absurd (cc) },
+      (record { target = lit< tt; left = λ e. absurd (cc); right = λ e. absurd (cc) }, tt),
+    ),
+  );
 }
 
 waiting-leads : (node : ℕ) → node < 4 → node ≢ 1 → (a b : ℕ) → WaitingRelated node a b → LeadsOn (λ s. s) quick_step slow_step waiting_product WaitingRelated node a b

@@ -1,18 +1,16 @@
 -- From a product's edges to the moves of two runs, on either side.
-use Rattle.std.proofs.Common.{◌≡◌, ◌≢◌, ℕ, zero, suc, ◌+◌, ◌*◌, ◌==◌, ◌<◌, ◌≤◌, ◌⊎◌, inl, inr, All, Bool, Contains, get_or, slice_index_or, true, false, List, [], ◌∷◌, length, max, Option, Some, None, slice_get, refl, sym, ◌∙◌, ap, subst, eqb-true, if◌then◌else◌, arith}
+use Rattle.std.proofs.Common.{◌≡◌, ◌≢◌, ℕ, zero, suc, ◌==◌, ◌<◌, ◌≤◌, inl, inr, All, Bool, Contains, get_or, slice_index_or, true, false, List, [], ◌∷◌, length, Option, Some, None, slice_get, refl, sym, ◌∙◌, ap, subst, eqb-true, if◌then◌else◌, arith}
 use Rattle.std.specs.Option.{option_map_or}
 use Rattle.std.proofs.lemmas.Option.{get_or_from_slice_get, slice_get_within}
 use Rattle.std.proofs.lemmas.List.Elements.{All-contains, All-get_or}
-use Rattle.runs.specs.Run.{Run, Step, run_of}
-use Rattle.runs.specs.Path.{Way, Through, Back, Fell, way}
-use Rattle.runs.specs.declared.ends.RunEnd.TheVariants.{Returned, Faulted, Running}
+use Rattle.runs.specs.Run.{Step}
+use Rattle.runs.specs.Path.{Through, Back, way}
 use Rattle.runs.proofs.Paths.{way-back, way-fell, way-through}
-use Rattle.runs.proofs.Runs.{faulted_stays}
 use Rattle.products.specs.declared.product.PEdge.{PEdge}
 use Rattle.products.specs.declared.product.PNode.{PNode}
 use Rattle.products.specs.declared.product.Product.{Product}
 use Rattle.products.specs.Ranks.{HasLowRanks, LowersRanks, RanksFall, left_rank, longest_path, right_rank}
-use Rattle.product_simulation.specs.Leads.{BothFault, BothFollow, EdgesLead, LeadsOn, arrival, left_next, right_next}
+use Rattle.product_simulation.specs.Leads.{BothFault, BothFollow, EdgesLead, LeadsOn, left_next, right_next}
 use Rattle.product_simulation.proofs.Answering.{Move, Along, Home, Fall}
 
 -- a path of an edge is at most as long as the longest
@@ -104,9 +102,10 @@ module _ {S : Type 0} (place : S → ℕ) (f g : S → Step S) (p : Product) (re
       → AreLinkedAt p related node a b → Move f g same (AreLinkedAt p related) (left_rank p.nodes) (longest_path p.edges) node a b
   left-move same home leads node a b linked =
       let on : LeadsOn place f g p related node a b = leads node linked.within linked.inside a b linked.is_related in
-      elim on.is_way
-      [ inl both ↦ follow-left same home node on.edge a b on.is_edge on.from both (on.edge.to == 1) refl
-      | inr both ↦ fault-left same node on.edge a b on.is_edge both ]
+      elim on.is_way [
+        | inl both ↦ follow-left same home node on.edge a b on.is_edge on.from both (on.edge.to == 1) refl
+        | inr both ↦ fault-left same node on.edge a b on.is_edge both
+      ]
 
   -- the same of the right run, which the left run answers
   follow-right : (same : S → S → Type 0) → ((x y : S) → related 1 x y → same x y) → (node : ℕ) (e : PEdge) (a b : S)
@@ -144,6 +143,7 @@ module _ {S : Type 0} (place : S → ℕ) (f g : S → Step S) (p : Product) (re
       → AreLinkedAt p related node a b → Move g f (λ y x. same x y) (λ q y x. AreLinkedAt p related q x y) (right_rank p.nodes) (longest_path p.edges) node b a
   right-move same home leads node a b linked =
       let on : LeadsOn place f g p related node a b = leads node linked.within linked.inside a b linked.is_related in
-      elim on.is_way
-      [ inl both ↦ follow-right same home node on.edge a b on.is_edge on.from both (on.edge.to == 1) refl
-      | inr both ↦ fault-right same node on.edge a b on.is_edge both ]
+      elim on.is_way [
+        | inl both ↦ follow-right same home node on.edge a b on.is_edge on.from both (on.edge.to == 1) refl
+        | inr both ↦ fault-right same node on.edge a b on.is_edge both
+      ]

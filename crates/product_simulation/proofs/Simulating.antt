@@ -1,5 +1,5 @@
 -- The product simulation, over states of any kind: where ranks fall and edges lead on, the two steps are equivalent.
-use Rattle.std.proofs.Common.{◌≡◌, ◌≢◌, ℕ, ◌+◌, ◌*◌, ◌<◌, ◌≤◌, refl, sym, ◌∙◌, ap, subst, length, arith}
+use Rattle.std.proofs.Common.{◌≡◌, ℕ, ◌+◌, ◌*◌, ◌≤◌, ◌∙◌, ap, subst, length, arith}
 use Rattle.std.proofs.Math.Nat.{mul_comm, mul_assoc, mul-le-mul_left}
 use Rattle.runs.specs.Equivalent.{AreEquivalent, Follows}
 use Rattle.runs.specs.Run.{Run, Step, end_of, run_of}
@@ -60,7 +60,7 @@ module _ {S : Type 0} (place : S → ℕ) (f g : S → Step S) (p : Product) (re
   pub left-answered : (s : S) → related 0 s s → AnswersWithin f g same (bound_of p) s s
   left-answered s h n =
       let count : n * length p.nodes * longest_path p.edges ≡ bound_of p * n =
-          mul_assoc n (length p.nodes) (longest_path p.edges) ∙ mul_comm n (length p.nodes * longest_path p.edges) in
+      mul_assoc n (length p.nodes) (longest_path p.edges) ∙ mul_comm n (length p.nodes * longest_path p.edges) in
       subst (λ (x : ℕ). Answers g same s x (run_of f s n)) count
       (simulation f g same (AreLinkedAt p related) (left_rank p.nodes) (length p.nodes) (longest_path p.edges) (left_rank_low p falls)
       (left-move place f g p related falls same home leads) 0 n s s (linked s h))
@@ -69,7 +69,7 @@ module _ {S : Type 0} (place : S → ℕ) (f g : S → Step S) (p : Product) (re
   pub right-answered : (s : S) → related 0 s s → AnswersWithin g f (λ y x. same x y) (bound_of p) s s
   right-answered s h n =
       let count : n * length p.nodes * longest_path p.edges ≡ bound_of p * n =
-          mul_assoc n (length p.nodes) (longest_path p.edges) ∙ mul_comm n (length p.nodes * longest_path p.edges) in
+      mul_assoc n (length p.nodes) (longest_path p.edges) ∙ mul_comm n (length p.nodes * longest_path p.edges) in
       subst (λ (x : ℕ). Answers f (λ y x. same x y) s x (run_of g s n)) count
       (simulation g f (λ y x. same x y) (λ q y x. AreLinkedAt p related q x y) (right_rank p.nodes) (length p.nodes) (longest_path p.edges) (right_rank_low p falls)
       (λ node b a. right-move place f g p related falls same home leads node a b) 0 n s s (linked s h))

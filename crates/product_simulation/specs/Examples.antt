@@ -4,7 +4,6 @@ use Rattle.runs.specs.Run.{Step, Goes, Returns}
 use Rattle.products.specs.declared.product.PEdge.{PEdge}
 use Rattle.products.specs.declared.product.PNode.{PNode}
 use Rattle.products.specs.declared.product.Product.{Product}
-use Rattle.product_simulation.specs.Leads.{EdgesLead}
 
 -- returns by its first step
 abbrev pub quick_step : ℕ → Step ℕ

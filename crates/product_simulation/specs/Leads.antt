@@ -1,5 +1,5 @@
--- Ways on from a node of a product, over states of any kind: both runs follow an edge's paths into the relation of the node
--- that it leads to, or both fault within them. Node 1 is the exit, where both have returned.
+-- Ways on from a node of a product, over states of any kind: both runs follow an edge's paths into the relation of the
+-- node that it leads to, or both fault within them. Node 1 is the exit, where both have returned.
 use Rattle.std.specs.Prelude.{◌≡◌, ◌≢◌, ◌⊎◌, ℕ, ◌==◌, ◌<◌, Contains, List, length, Option, None, option_map, slice_get, if◌then◌else◌}
 use Rattle.runs.specs.Run.{Step}
 use Rattle.runs.specs.Path.{Way, Through, Back, Fell, way}

@@ -25,7 +25,8 @@ SameEndAt live scratch a b = SameEnd live (scratch a.entry) a b
 
 -- the memories are equal at each address outside the scratch lines
 abbrev pub SameMemory : Scratch → Machine → Machine → Type 0
-SameMemory scratch a b = (at : ℕ) → at < 2 ^ 64 → (is_in_scratch (scratch a.entry) at ≡ true → ⊥) → a.memory at ≡ b.memory at
+SameMemory scratch a b =
+    (at : ℕ) → at < 2 ^ 64 → (is_in_scratch (scratch a.entry) at ≡ true → ⊥) → a.memory at ≡ b.memory at
 
 -- a start state of which a test holds
 pub record IsStartWhere (test : Machine → Bool) (s : Machine) : Type 0 where
@@ -46,8 +47,8 @@ pub record ReturnedAlike (live : List Output) (scratch : Scratch) (a b : Machine
   pub alike : EnteredAlike a b
   pub same : SameEndAt live scratch a b
 
--- Two states are related at a node, where a test for each node says what else holds of them. At the entry they are one start
--- state, and at the exit they have returned with the same end.
+-- Two states are related at a node, where a test for each node says what else holds of them. At the entry they are one
+-- start state, and at the exit they have returned with the same end.
 abbrev pub AreRelated : Product → List Output → Scratch → (ℕ → Machine → Machine → Bool) → ℕ → Machine → Machine → Type 0
 AreRelated p live scratch holds zero a b = IsStartWhere (λ s. holds 0 s s) a × (a ≡ b)
 AreRelated p live scratch holds (suc zero) a b = ReturnedAlike live scratch a b

@@ -20,6 +20,7 @@ pub fn nodes_count_law()
 /// equivalent within no bound. It does nothing.
 pub fn falling_ranks_law()
     ensures falls_before { RanksFall (standing_product (entry_edge ∷ [])) }
-    ensures leads { EdgesLead (λ s. s) quick_step endless_step (standing_product (entry_edge ∷ circle_edge ∷ [])) StandingRelated }
+    ensures leads { EdgesLead (λ s. s) quick_step endless_step
+        (standing_product (entry_edge ∷ circle_edge ∷ [])) StandingRelated }
     ensures other { (k : ℕ) → AreEquivalent IsAtEntry AnyEnd k quick_step endless_step → ⊥ }
 {}

@@ -32,7 +32,7 @@ pub fn simulation_law(left: &Function, right: &Function, live: &[Output], produc
         → ProductLeads left.now right.now product.now live.now scratch holds
         → (s : Machine) → IsStartWhere (λ t. holds 0 t t) s
         → KeepsPace (bound_of product.now) (function_step left.now) (function_step right.now) s
-            × KeepsPace (bound_of product.now) (function_step right.now) (function_step left.now) s }
+        × KeepsPace (bound_of product.now) (function_step right.now) (function_step left.now) s }
 {}
 
 /// The law of cycles: where ranks fall, no cycle of the product has only empty left paths, nor only
@@ -48,20 +48,23 @@ pub fn chain_law(live: &[Output])
     ensures two { (scratch : Scratch) (test : Machine → Bool) (k l : ℕ) (f g h : Function)
         → EquivalentFunctions test live.now scratch k f g → EquivalentFunctions test live.now scratch l g h
         → EquivalentFunctions test live.now scratch (joined_bound k l) f h }
-    ensures chain { (scratch : Scratch) (test : Machine → Bool) (f : Function) (links : List (Link Function)) → 0 < length links
-        → AreLinked (IsStartWhere test) (SameEndAt live.now scratch) function_step f links
+    ensures chain { (scratch : Scratch) (test : Machine → Bool) (f : Function) (links : List (Link Function))
+        → 0 < length links → AreLinked (IsStartWhere test) (SameEndAt live.now scratch) function_step f links
         → EquivalentFunctions test live.now scratch (composed_bound (bounds_of links)) f (last_of f links) }
 {}
 
 /// The law of what is no way on, over states of any type: an edge into the exit with a path that is
 /// empty on a side, and an edge on which one side alone faults. It does nothing.
 pub fn no_way_law<S>()
-    ensures empty_into_exit { (place : S → ℕ) (f g : S → Step S) (p : Product) (holds : ℕ → S → S → Bool) (e : PEdge) (a b : S)
-        → e.to ≡ 1 → (e.left ≡ []) ⊎ (e.right ≡ []) → IsWayOn place f g p (λ node c d. holds node c d ≡ true) e a b → ⊥ }
-    ensures left_alone { (place : S → ℕ) (f g : S → Step S) (p : Product) (holds : ℕ → S → S → Bool) (e : PEdge) (a b : S)
-        → way place f e.left (left_next p e.to) a ≡ Fell → (way place g e.right (right_next p e.to) b ≡ Fell → ⊥)
+    ensures empty_into_exit { (place : S → ℕ) (f g : S → Step S) (p : Product) (holds : ℕ → S → S → Bool)
+        (e : PEdge) (a b : S) → e.to ≡ 1 → (e.left ≡ []) ⊎ (e.right ≡ [])
         → IsWayOn place f g p (λ node c d. holds node c d ≡ true) e a b → ⊥ }
-    ensures right_alone { (place : S → ℕ) (f g : S → Step S) (p : Product) (holds : ℕ → S → S → Bool) (e : PEdge) (a b : S)
-        → way place g e.right (right_next p e.to) b ≡ Fell → (way place f e.left (left_next p e.to) a ≡ Fell → ⊥)
+    ensures left_alone { (place : S → ℕ) (f g : S → Step S) (p : Product) (holds : ℕ → S → S → Bool)
+        (e : PEdge) (a b : S) → way place f e.left (left_next p e.to) a ≡ Fell
+        → (way place g e.right (right_next p e.to) b ≡ Fell → ⊥)
+        → IsWayOn place f g p (λ node c d. holds node c d ≡ true) e a b → ⊥ }
+    ensures right_alone { (place : S → ℕ) (f g : S → Step S) (p : Product) (holds : ℕ → S → S → Bool)
+        (e : PEdge) (a b : S) → way place g e.right (right_next p e.to) b ≡ Fell
+        → (way place f e.left (left_next p e.to) a ≡ Fell → ⊥)
         → IsWayOn place f g p (λ node c d. holds node c d ≡ true) e a b → ⊥ }
 {}

@@ -14,8 +14,6 @@
 
 mod examples;
 mod laws;
-#[cfg(test)]
-mod tests;
 
 pub use examples::{falling_ranks_law, nodes_count_law};
 pub use laws::{chain_law, cycle_law, no_way_law, simulation_law};
