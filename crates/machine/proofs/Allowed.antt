@@ -45,6 +45,7 @@ region_spanned k a (r ∷ rs) at n j same bytes small each spanned h low =
       | inr there ↦ region_spanned k a rs at n j same bytes small each.1 spanned.1 there low
     ]
 
+-- the bytes of an allowed access lie in spans
 pub allowed_spanned : (k : Kept) (at n : ℕ) (w : Bool) → at < 2 ^ 64 → IsKept k
     → is_allowed (pure_of k) (record { at = at; bytes = n; write = w }) ≡ true → AreSpanned k at n
 allowed_spanned k at n w small h allowed j low =

@@ -200,6 +200,7 @@ table-form : (i : Insn) → IsTableInsn i → HasFound i
 table-form i t =
     let judged = judged-ok _ (insn_of (shape_of i) i.args i.line) i t.accepted in subst HasFound judged.0 judged.1
 
+-- an instruction of the table can be run
 pub table-runnable : (n : ℕ) (i : Insn) → IsTableInsn i → AllByRecursion (IsInside n) i.args → IsRunnable n i
 table-runnable n i t inside =
     let found = table-form i t in

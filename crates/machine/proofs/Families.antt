@@ -1,5 +1,5 @@
 -- The step at an instruction, and that it leads to a place of the function.
-use Rattle.std.proofs.Common.{◌≡◌, ◌≢◌, ◌⊎◌, inl, inr, ℕ, ◌+◌, ◌-◌, ◌<◌, Bool, true, false, List, length, slice_get, slice_index_or, Option, Some, None, IfSome, refl, sym, ◌∙◌, ap, subst, if◌then◌else◌, arith}
+use Rattle.std.proofs.Common.{◌≡◌, ◌≢◌, ◌⊎◌, inl, inr, ℕ, ◌+◌, ◌-◌, ◌<◌, Bool, true, false, List, length, slice_get, slice_index_or, Option, Some, None, IfSome, refl, sym, ◌∙◌, ap, subst, arith}
 use Rattle.std.proofs.lemmas.Bool.{cond_both}
 use Rattle.std.proofs.lemmas.Option.{slice_get-get_or}
 use Rattle.align_base.specs.declared.op.Op.{Op}
@@ -13,7 +13,7 @@ use Rattle.machine.specs.Access.{allows}
 use Rattle.machine.specs.Family.{family_of, holds_of}
 use Rattle.machine.specs.Kept.{Kept}
 use Rattle.machine.specs.Machine.{Machine}
-use Rattle.runs.specs.Run.{Step, Goes, Returns, Faults, MeetsUnset, tested}
+use Rattle.runs.specs.Run.{Step, Goes, tested}
 use Rattle.machine.specs.Runnable.{IsRunnableFunction, JumpsBelow}
 use Rattle.machine.specs.Step.{allows_at, after_change, at_place, step_where_known, free_at, free_step, goes, step_to, insn_step, jump_place, leads_to, step_of}
 use Rattle.machine.specs.Operands.{operand}
@@ -109,6 +109,7 @@ pub insn_at : (insns kept : List Insn) (s t : Kept) (d : Insn) → kept ≡ insn
     → slice_get insns t.place ≡ Some (slice_index_or kept s.place d)
 insn_at insns kept s t d same_insns same lt = rw (same_insns, same) (slice_get-get_or insns t.place d lt)
 
+-- the code's step of the instruction at the state's place is the step
 pub step_taken : (insns : List Insn) (pool taken : List ℕ) (i : Insn) (s t : Machine) (end : StepEnd) → taken ≡ pool → slice_get insns s.place ≡ Some i
     → StepsAs (insn_step taken i s) s end t → StepsAs (step_of insns pool s) s end t
 step_taken insns pool taken i s t end same at steps =

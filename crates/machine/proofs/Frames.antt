@@ -1,5 +1,5 @@
 -- What a step leaves as it was, and what a run does.
-use Rattle.std.proofs.Common.{◌≡◌, ◌⊎◌, inl, inr, ℕ, ◌+◌, ◌-◌, ◌/◌, ◌%◌, ◌^◌, ◌<◌, ◌≤◌, Bool, true, false, not, ◌&&◌, ◌||◌, nat_lt, List, [], ◌∷◌, slice_get, slice_index, Option, None, Some, if◌then◌else◌, refl, sym, ◌∙◌, ap, subst, arith}
+use Rattle.std.proofs.Common.{◌≡◌, ◌⊎◌, inl, inr, ℕ, ◌+◌, ◌-◌, ◌/◌, ◌%◌, ◌^◌, ◌<◌, ◌≤◌, Bool, true, false, not, ◌&&◌, ◌||◌, nat_lt, List, [], ◌∷◌, slice_index, Option, refl, sym, ◌∙◌, ap, subst, arith}
 use Rattle.std.specs.List.{list_all, list_any}
 use Rattle.std.proofs.lemmas.Bool.{and_from, and_parts, cond_both, lt-ltb, ltb-false, ltb-true, not-true, or_cases, or_left, or_right}
 use Rattle.align_base.specs.declared.op.Flags.{Flags}
@@ -215,14 +215,15 @@ runs_keep_frame : (step : Machine → Step Machine) → ((s t : Machine) → ste
     → SameFrame s (run_of step s n).0
 runs_keep_frame step each s n = run_keeps step SameFrame (λ t. frame_with) frame-joined each s n
 
--- A run leaves the frame as it was, also a free run,
+-- A run leaves the frame as it was,
 pub run_frame : (insns : List Insn) (pool : List ℕ) (s : Machine) (n : ℕ) → SameFrame s (run_of (step_of insns pool) s n).0
 run_frame insns pool = runs_keep_frame (step_of insns pool) (step_frame insns pool)
 
+-- and so does a free run.
 pub free_run_frame : (insns : List Insn) (pool : List ℕ) (s : Machine) (n : ℕ) → SameFrame s (run_of (free_step insns pool) s n).0
 free_run_frame insns pool = runs_keep_frame (free_step insns pool) (free_frame insns pool)
 
--- and a run each byte that may not be written.
+-- A run leaves each byte that may not be written.
 pub run_memory : (insns : List Insn) (pool : List ℕ) → IsClosed insns → (s : Machine) (n : ℕ) → SameUnwritable s (run_of (step_of insns pool) s n).0
 run_memory insns pool closed s n =
     (run_keeps (step_of insns pool) (λ t u. SameFrame t u × SameUnwritable t u)

@@ -54,14 +54,17 @@ abbrev pub state_through : List ℕ → List Insn → Machine → Machine
 state_through pool [] s = s
 state_through pool (i ∷ is) s = state_through pool is (moved pool i s)
 
+-- the registers after plain moves
 pub through-regs : (pool : List ℕ) (moves : List Insn) (s : Machine) → (state_through pool moves s).regs ≡ regs_through moves s.regs
 through-regs pool [] s = refl
 through-regs pool (i ∷ is) s = through-regs pool is (moved pool i s)
 
+-- plain moves leave the memory
 pub through-memory : (pool : List ℕ) (moves : List Insn) (s : Machine) → (state_through pool moves s).memory ≡ s.memory
 through-memory pool [] s = refl
 through-memory pool (i ∷ is) s = through-memory pool is (moved pool i s)
 
+-- plain moves leave the frame
 pub through_frame : (pool : List ℕ) (moves : List Insn) (s : Machine) → SameFrame s (state_through pool moves s)
 through_frame pool [] s = record { entry = refl; regions = refl; stack = refl; vecs = refl }
 through_frame pool (i ∷ is) s =

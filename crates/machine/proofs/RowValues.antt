@@ -24,6 +24,7 @@ pub source_read : (pool : List ℕ) (op : Op) (i : Insn) (s : Machine) → famil
 source_read pool ops.Lea i s e = cc
 source_read pool _ i s e = refl
 
+-- a computing row's value is what it computes
 pub computes : (op : Op) (w c a b : ℕ) → family_of op ≡ Computing → value (row_leaves a b c) (row_expr op w b) ≡ computed op w a b
 computes (ops.Cmov cond) w c a b e = cc
 computes (ops.Set cond) w c a b e = cc
@@ -41,6 +42,7 @@ narrow w (inr (inl e)) = omega arith
 narrow w (inr (inr (inl e))) = omega arith
 narrow w (inr (inr (inr e))) = omega arith
 
+-- the source of a row has a width
 pub source_is_width : (op : Op) (i : Insn) → IsWidth i.w → HasRowOf op i → IsWidth (source_width op i.w)
 source_is_width (ops.Movzx m) i w row = row.0
 source_is_width (ops.Movsx m) i w row = row.0
@@ -104,6 +106,7 @@ set_flags : (c : Cond) (w a b : ℕ) (f : Flags) → flags_after (ops.Set c) w a
 unfolding flags_after
 set_flags c w a b f = refl
 
+-- addresses, choices and settings leave the flags
 pub flags_stay : (op : Op) (w a b : ℕ) (f : Flags) → (family_of op ≡ Address) ⊎ ((family_of op ≡ Choice) ⊎ (family_of op ≡ Setting)) → flags_after op w a b f ≡ f
 flags_stay ops.Lea w a b f h = lea_flags w a b f
 flags_stay (ops.Cmov c) w a b f h = cmov_flags c w a b f
@@ -120,32 +123,39 @@ kept_after pool i s word cond f w =
     let after = flags_stay i.op i.w (destination_value pool i s) (source_value pool i.op i s) s.flags f in
     λ j. finished_row i s (w j) (sym after j)
 
+-- the value of the row of `lea`
 pub address_result : (op : Op) (w a b : ℕ) → family_of op ≡ Address → value (row_leaves a b 0) (row_expr op w b) ≡ b % 2 ^ w
 address_result ops.Lea w a b f = ap (λ (x : ℕ). x % 2 ^ w) (div-one b)
 address_result _ w a b f = cc
 
+-- the source of `lea` is its address
 pub address_source : (pool : List ℕ) (op : Op) (i : Insn) (s : Machine) → family_of op ≡ Address → source_value pool op i s ≡ address_of s.regs (operand i 0)
 address_source pool ops.Lea i s f = refl
 address_source pool _ i s f = cc
 
+-- `lea` writes a register
 pub address_row : (op : Op) (i : Insn) → family_of op ≡ Address → HasRowOf op i → IsGeneralRegister (target_operand op i)
 address_row ops.Lea i f row = row
 address_row _ i f row = cc
 
+-- the state after `lea`
 pub address_after : (pool : List ℕ) (i : Insn) (s : Machine) (word : ℕ) → family_of i.op ≡ Address → word ≡ address_of s.regs (operand i 0) % 2 ^ i.w
     → finished_row i s word s.flags ≡ after_row pool i s 0
 address_after pool i s word f w = kept_after pool i s word 0 (inl f)
     (w ∙ ap (λ (x : ℕ). x % 2 ^ i.w) (sym (address_source pool i.op i s f)) ∙ sym (address_result i.op i.w (destination_value pool i s) (source_value pool i.op i s) f))
 
+-- the value of the row of a move by condition
 pub choice_result : (op : Op) (w a b : ℕ) (holds : Bool) → family_of op ≡ Choice → value (row_leaves a b (bit holds)) (row_expr op w b) ≡ (if holds then b else a)
 choice_result (ops.Cmov c) w a b true f = refl
 choice_result (ops.Cmov c) w a b false f = refl
 choice_result _ w a b holds f = cc
 
+-- the source of a move by condition
 pub choice_source : (pool : List ℕ) (op : Op) (i : Insn) (s : Machine) → family_of op ≡ Choice → source_value pool op i s ≡ value_of pool (source_width op i.w) s (source_operand op i)
 choice_source pool (ops.Cmov c) i s f = refl
 choice_source pool _ i s f = cc
 
+-- the state after a move by condition
 pub choice_after : (pool : List ℕ) (i : Insn) (s : Machine) (a b word : ℕ) (holds : Bool) → family_of i.op ≡ Choice
     → a ≡ destination_value pool i s → b ≡ value_of pool (source_width i.op i.w) s (source_operand i.op i) → word ≡ (if holds then b else a)
     → finished_row i s word s.flags ≡ after_row pool i s (bit holds)
@@ -154,11 +164,13 @@ choice_after pool i s a b word holds f da sb w =
     let result : word ≡ result_of pool i s (bit holds) = w ∙ sym (choice_result i.op i.w a b holds f) ∙ (λ j. value (row_leaves (da j) (source j) (bit holds)) (row_expr i.op i.w (source j))) in
     kept_after pool i s word (bit holds) (inr (inl f)) result
 
+-- the value of the row of a byte set by condition
 pub setting_result : (op : Op) (w a b : ℕ) (holds : Bool) → family_of op ≡ Setting → value (row_leaves a b (bit holds)) (row_expr op w b) ≡ bit holds
 setting_result (ops.Set c) w a b true f = refl
 setting_result (ops.Set c) w a b false f = refl
 setting_result _ w a b holds f = cc
 
+-- the state after a byte set by condition
 pub setting_after : (pool : List ℕ) (i : Insn) (s : Machine) (word : ℕ) (holds : Bool) → family_of i.op ≡ Setting → word ≡ bit holds
     → finished_row i s word s.flags ≡ after_row pool i s (bit holds)
 setting_after pool i s word holds f w =

@@ -1,5 +1,5 @@
 -- A step keeps each value of a state in its range.
-use Rattle.std.proofs.Common.{◌≡◌, ℕ, zero, suc, ◌/◌, ◌%◌, ◌^◌, ◌<◌, nat_lt, Bool, true, false, inl, inr, List, length, Option, None, Some, slice_get, slice_index, slice_set, refl, sym, ◌∙◌, subst, if◌then◌else◌, arith, lit<}
+use Rattle.std.proofs.Common.{◌≡◌, ℕ, zero, suc, ◌/◌, ◌%◌, ◌^◌, ◌<◌, nat_lt, Bool, true, false, inl, inr, List, length, slice_index, slice_set, refl, sym, ◌∙◌, subst, arith, lit<}
 use Rattle.std.proofs.Math.ListN.{length-set}
 use Rattle.std.proofs.Math.Nat.{pow-suc}
 use Rattle.std.proofs.lemmas.Bool.{cond_both}
@@ -16,7 +16,7 @@ use Rattle.instruction_semantics.specs.Words.{bit}
 use Rattle.instruction_semantics.proofs.WordLaws.{computed_below}
 use Rattle.machine.specs.declared.operands.Family.{Family}
 use Rattle.machine.specs.declared.operands.Family.TheVariants.{Computing, Address, Choice, Setting, Branch, Jump, Pushing, Popping, Return, Idle}
-use Rattle.machine.specs.Access.{allows, source_width, stack_pointer, writes}
+use Rattle.machine.specs.Access.{source_width, stack_pointer, writes}
 use Rattle.machine.specs.Family.{family_of}
 use Rattle.machine.specs.Machine.{AreRegs, IsState, Machine, address_plus, offset_from}
 use Rattle.machine.specs.Memory.{with_word, word_at}
@@ -195,20 +195,22 @@ free_ranged insns pool s t f bytes state h =
     let after = changed_ranged (family_of by.insn.op) pool (length insns) by.insn s by.holds refl (f.each s.place by.insn by.there) bytes state in
     subst IsState by.is (record { regs = after.regs; entry = after.entry; vecs = after.vecs; memory = after.memory })
 
--- and so do a step
+-- and so does a step.
 pub step_ranged : (insns : List Insn) (pool : List ℕ) (s t : Machine) → IsRunnableFunction insns → ((at : ℕ) → slice_index pool at < 256) → IsState s
     → step_of insns pool s ≡ Goes t → IsState t
 step_ranged insns pool s t f bytes state h = free_ranged insns pool s t f bytes state (guarded-goes (allows_step insns) (free_step insns pool) s t h).1
 
--- and runs of either.
+-- what each step keeps, a run keeps
 runs_keep_state : (step : Machine → Step Machine) → ((s t : Machine) → IsState s → step s ≡ Goes t → IsState t) → (s : Machine) (n : ℕ) → IsState s
     → IsState (run_of step s n).0
 runs_keep_state step each s n state = run_keeps step (λ t u. IsState t → IsState u) (λ t h. h) (λ t u v g h k. h (g k)) (λ t u h k. each t u k h) s n state
 
+-- A run keeps each value of a state in its range,
 pub run_ranged : (insns : List Insn) (pool : List ℕ) (s : Machine) (n : ℕ) → IsRunnableFunction insns → ((at : ℕ) → slice_index pool at < 256) → IsState s
     → IsState (run_of (step_of insns pool) s n).0
 run_ranged insns pool s n f bytes state = runs_keep_state (step_of insns pool) (λ t u k h. step_ranged insns pool t u f bytes k h) s n state
 
+-- and so does a free run.
 pub free_run_ranged : (insns : List Insn) (pool : List ℕ) (s : Machine) (n : ℕ) → IsRunnableFunction insns → ((at : ℕ) → slice_index pool at < 256) → IsState s
     → IsState (run_of (free_step insns pool) s n).0
 free_run_ranged insns pool s n f bytes state = runs_keep_state (free_step insns pool) (λ t u k h. free_ranged insns pool t u f bytes k h) s n state

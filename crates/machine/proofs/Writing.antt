@@ -59,6 +59,7 @@ all_three p xs ys zs h =
     let one = both_true (list_all p xs) (list_all p ys) (sym (list_all-append p xs ys) ∙ two.0) in
     (one.0, one.1, two.1)
 
+-- what a row writes is allowed where each of its accesses is
 pub written_allowed : (i : Insn) (s : Machine) → writes i.op ≡ true → list_all (is_allowed s) (operand_accesses i s) ≡ true
     → list_all (is_allowed s) (access_of s (operand i (arity i - 1)) i.w true) ≡ true
 written_allowed i s writing h =

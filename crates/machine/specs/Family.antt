@@ -8,6 +8,7 @@ use Rattle.instruction_semantics.specs.Conditions.{cond_of}
 use Rattle.machine.specs.declared.operands.Family.{Family}
 use Rattle.machine.specs.declared.operands.Family.TheVariants.{Computing, Address, Choice, Setting, Branch, Jump, Pushing, Popping, Return, Idle}
 
+-- the family of an operation
 abbrev pub family_of : Op → Family
 family_of ops.Lea = Address
 family_of (ops.Cmov c) = Choice
@@ -28,6 +29,7 @@ condition_of (ops.Set c) = Some c
 condition_of (ops.Jump c) = Some c
 condition_of _ = None
 
+-- the value of a condition, where there is one: None where a flag that it reads is unset
 abbrev pub value_of_condition : Option Cond → Flags → Option Bool
 value_of_condition None f = Some false
 value_of_condition (Some c) f = cond_of c f

@@ -19,8 +19,10 @@ register_or_zero regs (Some n) = slice_index regs n
 
 -- the address of a memory operand: base, index times scale and displacement, modulo 2^64 (Intel SDM volume 1, 3.7.5)
 abbrev pub effective_address : List ℕ → Option ℕ → Option ℕ → ℕ → ℤ → ℕ
-effective_address regs base index scale disp = (register_or_zero regs base + register_or_zero regs index * scale + displacement disp) % 2 ^ 64
+effective_address regs base index scale disp =
+    (register_or_zero regs base + register_or_zero regs index * scale + displacement disp) % 2 ^ 64
 
+-- the address of an operand in memory, 0 of another
 abbrev pub address_of : List ℕ → Operand → ℕ
 address_of regs (Mem base index scale disp) = effective_address regs base index scale disp
 address_of regs (Reg n w) = 0
@@ -47,7 +49,8 @@ register_after w old word = if (w == 8) || (w == 16) then old / 2 ^ w * 2 ^ w + 
 -- the state after a write of w bits to an operand
 abbrev pub with_value : ℕ → Machine → Operand → ℕ → Machine
 with_value w s (Reg n width) word = record s { regs = slice_set s.regs n (register_after w (slice_index s.regs n) word) }
-with_value w s (Mem base index scale disp) word = record s { memory = with_word s.memory (effective_address s.regs base index scale disp) (w / 8) word }
+with_value w s (Mem base index scale disp) word =
+    record s { memory = with_word s.memory (effective_address s.regs base index scale disp) (w / 8) word }
 with_value w s (Imm v) word = s
 with_value w s (Vec n width) word = s
 with_value w s (Pool n) word = s

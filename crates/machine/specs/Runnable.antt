@@ -10,9 +10,11 @@ use Rattle.insn_table.specs.Table.{HasRegisters}
 use Rattle.machine.specs.Operands.{operand}
 use Rattle.machine.specs.Step.{jump_place, target_operand}
 
+-- the width of a general register or of a part of it
 abbrev pub IsWidth : ℕ → Type 0
 IsWidth w = (w ≡ 8) ⊎ ((w ≡ 16) ⊎ ((w ≡ 32) ⊎ (w ≡ 64)))
 
+-- the operand is a general register, of any width
 abbrev pub IsGeneralRegister : Operand → Type 0
 IsGeneralRegister (Reg n w) = Unit {0}
 IsGeneralRegister _ = ⊥

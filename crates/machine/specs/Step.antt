@@ -1,6 +1,6 @@
--- One step, from its parts: what the instruction may access and whether all of it is allowed (in Access), where it leads, and
--- how it changes the state. The free step takes every access as allowed and every return as one; the step is the free step
--- under the tests of what is allowed.
+-- One step, from its parts: what the instruction may access and whether all of it is allowed (in Access), where it leads,
+-- and how it changes the state. The free step takes every access as allowed and every return as one; the step is the
+-- free step under the tests of what is allowed.
 --
 -- What a row computes and which flags it leaves is said in instruction_semantics, with the sections of Intel's Software
 -- Developer's Manual, volume 2.
@@ -30,10 +30,12 @@ abbrev pub target_operand : Op → Insn → Operand
 target_operand ops.Cltq i = Reg 0 64
 target_operand _ i = operand i (arity i - 1)
 
+-- the operand that a row's destination is read from
 abbrev pub destination_operand : Op → Insn → Operand
 destination_operand ops.Cltq i = Reg 0 64
 destination_operand _ i = if arity i == 1 then operand i 0 else operand i 1
 
+-- the operand that a row's source is read from
 abbrev pub source_operand : Op → Insn → Operand
 source_operand ops.Cltq i = Reg 0 32
 source_operand _ i = operand i 0
@@ -43,6 +45,7 @@ abbrev pub source_value : List ℕ → Op → Insn → Machine → ℕ
 source_value pool ops.Lea i s = address_of s.regs (operand i 0)
 source_value pool op i s = value_of pool (source_width op i.w) s (source_operand op i)
 
+-- what the destination gives
 abbrev pub destination_value : List ℕ → Insn → Machine → ℕ
 destination_value pool i s = value_of pool i.w s (destination_operand i.op i)
 
@@ -55,7 +58,8 @@ row_leaves destination source cond (suc (suc i)) = cond
 -- what a row computes, where its condition has this value
 abbrev pub result_of : List ℕ → Insn → Machine → ℕ → ℕ
 result_of pool i s cond =
-    value (row_leaves (destination_value pool i s) (source_value pool i.op i s) cond) (row_expr i.op i.w (source_value pool i.op i s))
+    let source = source_value pool i.op i s in
+    value (row_leaves (destination_value pool i s) source cond) (row_expr i.op i.w source)
 
 -- the state after a row's result
 abbrev pub with_result : List ℕ → Insn → Machine → ℕ → Machine
@@ -63,13 +67,17 @@ with_result pool i s cond = if writes i.op then with_value i.w s (target_operand
 
 -- the state after a row
 abbrev pub after_row : List ℕ → Insn → Machine → ℕ → Machine
-after_row pool i s cond = record (with_result pool i s cond) { flags = flags_after i.op i.w (destination_value pool i s) (source_value pool i.op i s) s.flags }
+after_row pool i s cond =
+    record (with_result pool i s cond) {
+      flags = flags_after i.op i.w (destination_value pool i s) (source_value pool i.op i s) s.flags;
+    }
 
 -- the place that a jump goes to
 abbrev pub jump_place : Operand → ℕ
 jump_place (Target n) = n
 jump_place _ = 0
 
+-- the state at another place
 abbrev pub at_place : Machine → ℕ → Machine
 at_place s place = record s { place = place }
 
@@ -91,9 +99,11 @@ after_push i s =
 abbrev pub after_pop : Insn → Machine → Machine
 after_pop i s =
     let above = address_plus (stack_pointer s) 8 in
-    record s { regs = slice_set (slice_set s.regs 4 above) (register_number (operand i 0)) (word_at s.memory (stack_pointer s) 8) }
+    let read = word_at s.memory (stack_pointer s) 8 in
+    record s { regs = slice_set (slice_set s.regs 4 above) (register_number (operand i 0)) read }
 
--- how an instruction of a family changes registers, flags and memory, where its condition, if it reads one, has this value
+-- how an instruction of a family changes registers, flags and memory, where its condition, if it reads one, has this
+-- value
 abbrev pub after_change : Family → List ℕ → Insn → Machine → Bool → Machine
 after_change Pushing pool i s holds = after_push i s
 after_change Popping pool i s holds = after_pop i s
@@ -117,6 +127,7 @@ abbrev pub step_to : Option ℕ → Machine → Step Machine
 step_to None s = Returns
 step_to (Some place) s = Goes (at_place s place)
 
+-- the step of an instruction of a family, where its condition has this value
 abbrev pub goes : Family → List ℕ → Insn → Machine → Bool → Step Machine
 goes kind pool i s holds = step_to (leads_to kind i s.place holds) (after_change kind pool i s holds)
 
@@ -134,13 +145,16 @@ abbrev pub free_at : List ℕ → Option Insn → Machine → Step Machine
 free_at pool None s = Faults
 free_at pool (Some i) s = free_insn pool i s
 
+-- one step of a function of these instructions with this pool, which takes every test as met
 abbrev pub free_step : List Insn → List ℕ → Machine → Step Machine
 free_step insns pool s = free_at pool (slice_get insns s.place) s
 
+-- each test of the instruction at the state's place holds
 abbrev pub allows_at : Option Insn → Machine → Bool
 allows_at None s = true
 allows_at (Some i) s = allows i s
 
+-- each test of the next step holds
 abbrev pub allows_step : List Insn → Machine → Bool
 allows_step insns s = allows_at (slice_get insns s.place) s
 

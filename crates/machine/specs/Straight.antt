@@ -34,7 +34,8 @@ plain_result _ old value = old
 
 -- the registers after a plain move
 abbrev pub regs_after : Insn → List ℕ → List ℕ
-regs_after i regs = regs_with regs (operand i 1) (plain_result i.op (value_at regs (operand i 1)) (value_at regs (operand i 0)))
+regs_after i regs =
+    regs_with regs (operand i 1) (plain_result i.op (value_at regs (operand i 1)) (value_at regs (operand i 0)))
 
 -- the registers after these moves
 abbrev pub regs_through : List Insn → List ℕ → List ℕ
@@ -45,10 +46,11 @@ regs_through (i ∷ is) regs = regs_through is (regs_after i regs)
 pub record LeaveTheSame (f g : List Insn) : Type 0 where
   pub left : IsPlain f
   pub right : IsPlain g
-  pub same : (s : Machine) → IsPlainStart s → slice_index (regs_through left.moves s.regs) 0 ≡ slice_index (regs_through right.moves s.regs) 0
+  pub same : (s : Machine) → IsPlainStart s
+      → slice_index (regs_through left.moves s.regs) 0 ≡ slice_index (regs_through right.moves s.regs) 0
 
--- From the start state s it returns at its last instruction, in a state of 64-bit registers, those after all moves before
--- it, where all but registers, flags and place is as it was; and it ends in no other way.
+-- From the start state s it returns at its last instruction, in a state of 64-bit registers, those after all moves
+-- before it, where all but registers, flags and place is as it was; and it ends in no other way.
 pub record OnlyReturns (insns : List Insn) (pool : List ℕ) (s : Machine) : Type 0 where
   pub end : Machine
   pub returned : run_of (step_of insns pool) s (length insns) ≡ (end, Returned (length insns))

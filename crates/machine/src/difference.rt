@@ -72,7 +72,8 @@ impl State {
     /// Whether an output is equal in both.
     fn agrees(&self, other: &State, output: Output) -> bool
         requires { IsOutput output }
-        ensures { MatchBool result (Agree (pure_of self.now) (pure_of other.now) output) (Agree (pure_of self.now) (pure_of other.now) output → ⊥) }
+        ensures { MatchBool result (Agree (pure_of self.now) (pure_of other.now) output)
+            (Agree (pure_of self.now) (pure_of other.now) output → ⊥) }
     {
         match output {
             Output::Reg { n, w } => low_bits(w, self.reg(n)) == low_bits(w, other.reg(n)),
@@ -96,8 +97,10 @@ impl State {
     /// The first of them in spans.
     fn first_in_spans(&self, other: &State, scratch: &[(u64, u64)], spans: &[Span]) -> Option<u64>
         requires { AreOrdered 0 spans.now }
-        ensures none { IfNone result (AreSame (is_spanned spans.now) scratch.now (pure_of self.now) (pure_of other.now)) }
-        ensures some { IfSome result (IsFirstAmong (is_spanned spans.now) scratch.now (pure_of self.now) (pure_of other.now)) }
+        ensures none { IfNone result (AreSame (is_spanned spans.now)
+            scratch.now (pure_of self.now) (pure_of other.now)) }
+        ensures some { IfSome result (IsFirstAmong (is_spanned spans.now)
+            scratch.now (pure_of self.now) (pure_of other.now)) }
     {
         for span in spans {
             if let Some(at) = self.first_in_span(other, scratch, span) {
@@ -110,8 +113,10 @@ impl State {
     /// The first of them in a span.
     fn first_in_span(&self, other: &State, scratch: &[(u64, u64)], span: &Span) -> Option<u64>
         requires { span.now.at + length span.now.bytes.items ≤ 2 ^ 64 }
-        ensures none { IfNone result (AreSame (spans_address span.now) scratch.now (pure_of self.now) (pure_of other.now)) }
-        ensures some { IfSome result (IsFirstAmong (spans_address span.now) scratch.now (pure_of self.now) (pure_of other.now)) }
+        ensures none { IfNone result (AreSame (spans_address span.now)
+            scratch.now (pure_of self.now) (pure_of other.now)) }
+        ensures some { IfSome result (IsFirstAmong (spans_address span.now)
+            scratch.now (pure_of self.now) (pure_of other.now)) }
         ensures within { IfSome result (λ at. at < span.now.at + length span.now.bytes.items) }
     {
         for i in 0..span.bytes.len() {

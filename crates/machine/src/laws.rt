@@ -28,8 +28,8 @@ pub fn plain_functions_return(f: &Function)
 /// leave the same in %rax. It does nothing.
 pub fn plain_functions_agree(f: &Function, g: &Function)
     requires { LeaveTheSame f.now.insns g.now.insns }
-    ensures { (pool_f pool_g : List ℕ) → AreEquivalent IsPlainStart SamePlainEnd (2 * max (length f.now.insns) (length g.now.insns))
-        (step_of f.now.insns pool_f) (step_of g.now.insns pool_g) }
+    ensures { (pool_f pool_g : List ℕ) → AreEquivalent IsPlainStart SamePlainEnd
+        (2 * max (length f.now.insns) (length g.now.insns)) (step_of f.now.insns pool_f) (step_of g.now.insns pool_g) }
 {}
 
 /// The laws of runs, which hold of every step: a run that is over stays as it is, and a run of l + m
@@ -37,7 +37,8 @@ pub fn plain_functions_agree(f: &Function, g: &Function)
 pub fn run_law()
     ensures over { (insns : List Insn) (pool : List ℕ) (s t : Machine) (e : RunEnd) (n k : ℕ) → IsOver e
         → run_of (step_of insns pool) s n ≡ (t, e) → run_of (step_of insns pool) s (n + k) ≡ (t, e) }
-    ensures parts { (insns : List Insn) (pool : List ℕ) (s t : Machine) (l m : ℕ) → run_of (step_of insns pool) s l ≡ (t, Running)
+    ensures parts { (insns : List Insn) (pool : List ℕ) (s t : Machine) (l m : ℕ)
+        → run_of (step_of insns pool) s l ≡ (t, Running)
         → run_of (step_of insns pool) s (l + m) ≡ later l (run_of (step_of insns pool) t m) }
 {}
 
@@ -51,7 +52,8 @@ pub fn path_law()
     ensures falls { (insns : List Insn) (pool : List ℕ) (path : List ℕ) (next : Option ℕ) (s : Machine)
         → Arrived (way (λ t. t.place) (free_step insns pool) path next s)
         → allowed_along (allows_step insns) (free_step insns pool) path s ≡ false
-        → (way (λ t. t.place) (step_of insns pool) path next s ≡ Fell) × FallsAtFirst (allows_step insns) (free_step insns pool) path s }
+        → (way (λ t. t.place) (step_of insns pool) path next s ≡ Fell)
+        × FallsAtFirst (allows_step insns) (free_step insns pool) path s }
 {}
 
 /// The law of what a way says of the run: one that is through still goes on after as many steps as
@@ -65,7 +67,8 @@ pub fn way_law()
         → way (λ u. u.place) (step_of insns pool) path next s ≡ Back t
         → run_of (step_of insns pool) s (length path) ≡ (t, Returned (length path)) }
     ensures fell { (insns : List Insn) (pool : List ℕ) (path : List ℕ) (next : Option ℕ) (s : Machine)
-        → way (λ u. u.place) (step_of insns pool) path next s ≡ Fell → FallsWithin (step_of insns pool) s (length path) }
+        → way (λ u. u.place) (step_of insns pool) path next s ≡ Fell
+        → FallsWithin (step_of insns pool) s (length path) }
 {}
 
 /// The law of a memory: bytes that were written are read back, each byte past them stays as it was,
@@ -85,26 +88,29 @@ pub fn memory_law()
 /// It does nothing.
 pub fn step_frame_law()
     ensures step { (insns : List Insn) (pool : List ℕ) (s t : Machine) → step_of insns pool s ≡ Goes t → SameFrame s t }
-    ensures step_memory { (insns : List Insn) (pool : List ℕ) (s t : Machine) → IsClosed insns → step_of insns pool s ≡ Goes t
-        → SameUnwritable s t }
-    ensures run { (insns : List Insn) (pool : List ℕ) (s : Machine) (n : ℕ) → SameFrame s (run_of (step_of insns pool) s n).0 }
+    ensures step_memory { (insns : List Insn) (pool : List ℕ) (s t : Machine) → IsClosed insns
+        → step_of insns pool s ≡ Goes t → SameUnwritable s t }
+    ensures run { (insns : List Insn) (pool : List ℕ) (s : Machine) (n : ℕ)
+        → SameFrame s (run_of (step_of insns pool) s n).0 }
     ensures run_memory { (insns : List Insn) (pool : List ℕ) (s : Machine) (n : ℕ) → IsClosed insns
         → SameUnwritable s (run_of (step_of insns pool) s n).0 }
-    ensures free_step { (insns : List Insn) (pool : List ℕ) (s t : Machine) → free_step insns pool s ≡ Goes t → SameFrame s t }
+    ensures free_step { (insns : List Insn) (pool : List ℕ) (s t : Machine) → free_step insns pool s ≡ Goes t
+        → SameFrame s t }
     ensures free_step_memory { (insns : List Insn) (pool : List ℕ) (s t : Machine) → IsClosed insns
         → allows_step insns s ≡ true → free_step insns pool s ≡ Goes t → SameUnwritable s t }
-    ensures free_run { (insns : List Insn) (pool : List ℕ) (s : Machine) (n : ℕ) → SameFrame s (run_of (free_step insns pool) s n).0 }
+    ensures free_run { (insns : List Insn) (pool : List ℕ) (s : Machine) (n : ℕ)
+        → SameFrame s (run_of (free_step insns pool) s n).0 }
 {}
 
 /// The law that a step and a run of a closed function, whose pool holds bytes, keep the values of a
 /// state in their ranges, under the tests and also freely. It does nothing.
 pub fn state_law()
-    ensures step { (insns : List Insn) (pool : List ℕ) (s t : Machine) → IsClosed insns → ((at : ℕ) → slice_index pool at < 256)
-        → IsState s → step_of insns pool s ≡ Goes t → IsState t }
-    ensures run { (insns : List Insn) (pool : List ℕ) (s : Machine) (n : ℕ) → IsClosed insns → ((at : ℕ) → slice_index pool at < 256)
-        → IsState s → IsState (run_of (step_of insns pool) s n).0 }
-    ensures free_step { (insns : List Insn) (pool : List ℕ) (s t : Machine) → IsClosed insns → ((at : ℕ) → slice_index pool at < 256)
-        → IsState s → free_step insns pool s ≡ Goes t → IsState t }
-    ensures free_run { (insns : List Insn) (pool : List ℕ) (s : Machine) (n : ℕ) → IsClosed insns → ((at : ℕ) → slice_index pool at < 256)
-        → IsState s → IsState (run_of (free_step insns pool) s n).0 }
+    ensures step { (insns : List Insn) (pool : List ℕ) (s t : Machine) → IsClosed insns
+        → ((at : ℕ) → slice_index pool at < 256) → IsState s → step_of insns pool s ≡ Goes t → IsState t }
+    ensures run { (insns : List Insn) (pool : List ℕ) (s : Machine) (n : ℕ) → IsClosed insns
+        → ((at : ℕ) → slice_index pool at < 256) → IsState s → IsState (run_of (step_of insns pool) s n).0 }
+    ensures free_step { (insns : List Insn) (pool : List ℕ) (s t : Machine) → IsClosed insns
+        → ((at : ℕ) → slice_index pool at < 256) → IsState s → free_step insns pool s ≡ Goes t → IsState t }
+    ensures free_run { (insns : List Insn) (pool : List ℕ) (s : Machine) (n : ℕ) → IsClosed insns
+        → ((at : ℕ) → slice_index pool at < 256) → IsState s → IsState (run_of (free_step insns pool) s n).0 }
 {}

@@ -146,7 +146,8 @@ fn put_bytes(spans: &mut Vec<Span>, at: u64, n: u32, word: u64)
 fn put_byte(spans: &mut Vec<Span>, at: u64, byte: u8)
     requires ordered { AreOrdered 0 spans.old.items }
     requires spanned { is_spanned spans.old.items at ≡ true }
-    ensures bytes { (x : ℕ) → x < 2 ^ 64 → byte_of spans.new.items x ≡ (if x == at then byte else byte_of spans.old.items x) }
+    ensures bytes { (x : ℕ) → x < 2 ^ 64
+        → byte_of spans.new.items x ≡ (if x == at then byte else byte_of spans.old.items x) }
     ensures places { places spans.new.items ≡ places spans.old.items }
 {
     if let Some(i) = span_with(spans, at, 1) {
@@ -171,7 +172,8 @@ fn put_in_span(spans: &mut Vec<Span>, i: usize, at: u64, n: u32, word: u64)
 fn put_in(bytes: &mut Vec<u8>, from: usize, n: u32, word: u64)
     requires few { n ≤ 8 }
     requires within { from + n ≤ length bytes.old.items }
-    ensures bytes { (x : ℕ) → slice_index bytes.new.items x ≡ (if nat_le from x && nat_lt (x - from) n then word / 256 ^ (x - from) % 256 else slice_index bytes.old.items x) }
+    ensures bytes { (x : ℕ) → slice_index bytes.new.items x ≡ (if nat_le from x && nat_lt (x - from) n
+        then word / 256 ^ (x - from) % 256 else slice_index bytes.old.items x) }
     ensures length { length bytes.new.items ≡ length bytes.old.items }
 {
     for k in 0..n {

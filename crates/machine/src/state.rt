@@ -18,8 +18,8 @@ ghost use Rattle.machine.specs.Kept.{AreOrdered, IsKept, pure_of};
 ghost use Rattle.machine.specs.Start.{IsCopy, kept_start};
 
 use crate::operands::{
-    Family, arity, condition, destination, displacement_of, jump_place, low_bits,
-    op_family, operand, register_after, register_number, source, source_width, target, width_at, writes,
+    Family, arity, condition, destination, displacement_of, jump_place, low_bits, op_family,
+    operand, register_after, register_number, source, source_width, target, width_at, writes,
 };
 use crate::ranges::{are_regs, are_vecs, spans_hold_bytes};
 use crate::spans::{byte_at, copy_spans, put_word, word_in, word_of};
@@ -245,7 +245,8 @@ impl State {
     fn allows_operand(&self, insn: &Insn, k: usize) -> bool
         requires small { k < 3 }
         requires numbers { (k : ℕ) → HasRegisters (operands.operand insn.now k) }
-        ensures { result ≡ list_all (access.is_allowed (pure_of self.now)) (access.access_at insn.now (pure_of self.now) k) }
+        ensures { result ≡ list_all (access.is_allowed (pure_of self.now))
+            (access.access_at insn.now (pure_of self.now) k) }
     {
         let operand = operand(insn, k);
         match operand {
@@ -261,7 +262,8 @@ impl State {
     /// Whether each operand in memory may be accessed.
     fn allows_operands(&self, insn: &Insn) -> bool
         requires numbers { (k : ℕ) → HasRegisters (operands.operand insn.now k) }
-        ensures { result ≡ list_all (access.is_allowed (pure_of self.now)) (access.operand_accesses insn.now (pure_of self.now)) }
+        ensures { result ≡ list_all (access.is_allowed (pure_of self.now))
+            (access.operand_accesses insn.now (pure_of self.now)) }
     {
         self.allows_operand(insn, 0) && self.allows_operand(insn, 1) && self.allows_operand(insn, 2)
     }
@@ -318,9 +320,11 @@ impl State {
         requires width { IsWidth insn.now.w }
         requires word { word < 2 ^ insn.now.w }
         requires numbers { (n : ℕ) → HasRegisters (operands.operand insn.now n) }
-        requires spanned { access.writes insn.now.op ≡ true → IsSpanned self.old insn.now.w (steps.target_operand insn.now.op insn.now) }
+        requires spanned { access.writes insn.now.op ≡ true
+            → IsSpanned self.old insn.now.w (steps.target_operand insn.now.op insn.now) }
         ensures state { pure_of self.new ≡ (if access.writes insn.now.op
-            then operands.with_value insn.now.w (pure_of self.old) (steps.target_operand insn.now.op insn.now) word else pure_of self.old) }
+            then operands.with_value insn.now.w (pure_of self.old) (steps.target_operand insn.now.op insn.now) word
+            else pure_of self.old) }
         ensures place { self.new.place ≡ self.old.place }
     {
         if writes(insn.op) {
@@ -333,7 +337,8 @@ impl State {
         requires width { IsWidth insn.now.w }
         requires word { word < 2 ^ insn.now.w }
         requires numbers { (n : ℕ) → HasRegisters (operands.operand insn.now n) }
-        requires spanned { access.writes insn.now.op ≡ true → IsSpanned self.old insn.now.w (steps.target_operand insn.now.op insn.now) }
+        requires spanned { access.writes insn.now.op ≡ true
+            → IsSpanned self.old insn.now.w (steps.target_operand insn.now.op insn.now) }
         ensures { pure_of self.new ≡ finished_row insn.now (pure_of self.old) word flags }
     {
         self.put_result(insn, word);
@@ -357,8 +362,8 @@ impl State {
         requires width { IsWidth insn.now.w }
         requires numbers { (n : ℕ) → HasRegisters (operands.operand insn.now n) }
         requires row { HasRowOf insn.now.op insn.now }
-        ensures value { result ≡ operands.value_of pool.now (access.source_width insn.now.op insn.now.w) (pure_of self.now)
-            (steps.source_operand insn.now.op insn.now) }
+        ensures value { result ≡ operands.value_of pool.now (access.source_width insn.now.op insn.now.w)
+            (pure_of self.now) (steps.source_operand insn.now.op insn.now) }
         ensures below { result < 2 ^ access.source_width insn.now.op insn.now.w }
     {
         self.value(pool, source_width(insn.op, insn.w), source(insn))
@@ -471,7 +476,8 @@ impl State {
     fn execute(&mut self, family: Family, pool: &[u8], insn: &Insn, holds: bool) -> StepEnd
         requires ready { IsReady family insn.now self.old }
         requires next { self.old.place + 1 < 2 ^ 32 }
-        ensures { StepsAs (steps.goes family pool.now insn.now (pure_of self.old) holds) (pure_of self.old) result (pure_of self.new) }
+        ensures { StepsAs (steps.goes family pool.now insn.now (pure_of self.old) holds) (pure_of self.old) result
+            (pure_of self.new) }
     {
         let Some(place) = self.leads_to(family, insn, holds) else {
             return StepEnd::Return;
@@ -496,7 +502,8 @@ impl State {
     fn run_insn(&mut self, pool: &[u8], insn: &Insn) -> StepEnd
         requires runnable { (n : ℕ) × IsRunnable n insn.now }
         requires next { self.old.place + 1 < 2 ^ 32 }
-        ensures { StepsAs (steps.insn_step pool.now insn.now (pure_of self.old)) (pure_of self.old) result (pure_of self.new) }
+        ensures { StepsAs (steps.insn_step pool.now insn.now (pure_of self.old)) (pure_of self.old) result
+            (pure_of self.new) }
     {
         let Some(holds) = self.condition_value(insn.op) else {
             return StepEnd::Unset;
@@ -512,7 +519,8 @@ impl State {
     pub fn step(&mut self, f: &Function) -> StepEnd
         requires closed { IsClosed f.now.insns }
         requires inside { self.old.place < length f.now.insns }
-        ensures steps { StepsAs (steps.step_of f.now.insns f.now.pool (pure_of self.old)) (pure_of self.old) result (pure_of self.new) }
+        ensures steps { StepsAs (steps.step_of f.now.insns f.now.pool (pure_of self.old)) (pure_of self.old) result
+            (pure_of self.new) }
         ensures inside { self.new.place < length f.now.insns }
     {
         let insn = f.insns.as_slice()[self.place as usize];

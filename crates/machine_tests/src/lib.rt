@@ -3,10 +3,16 @@
 #![tactic(auto)]
 
 #[cfg(test)]
-mod building;
+mod conditions;
 #[cfg(test)]
-mod difference_tests;
+mod differences;
+#[cfg(test)]
+mod memory;
+#[cfg(test)]
+mod stack;
+#[cfg(test)]
+mod statements;
 #[cfg(test)]
 mod states;
 #[cfg(test)]
-mod tests;
+mod trials;

@@ -1,4 +1,4 @@
-//! Start states for tests.
+//! The start states of the tests.
 ghost use Rattle.std.specs.Prelude.{◌≡◌, IfOk};
 
 use lane_views::Bytes32;
@@ -6,17 +6,16 @@ use machine::{Region, Span, State};
 use std::alloc::Global;
 use std::test::Fail;
 
-// A region.
 fn region(base: u64, len: u64, write: bool) -> Region
     ensures { result ≡ record { base = base; len = len; write = write } }
 {
     Region { base, len, write }
 }
 
-// The bytes 0x11 in regions, and 16 declared stack bytes, which are 0, below 8192, which is in %rsp.
-// From 4096 to 4111 stands one region. From 4128 and from 4136 stand two of 8 bytes side by side, and
-// again from 4160 and from 4168, where a third stands over both. From 4192 to 4207 stands one that may
-// be read alone, and one has the last 16 bytes below 2^64.
+/// The bytes 0x11 in regions, and 16 declared stack bytes, which are 0, below 8192, which is in
+/// `%rsp`. From 4096 to 4111 stands one region. From 4128 and from 4136 stand two of 8 bytes side by
+/// side, and again from 4160 and from 4168, where a third stands over both. From 4192 to 4207 stands
+/// one that may be read alone, and one has the last 16 bytes below 2^64.
 pub fn start(alloc: Global, rax: u64, rcx: u64) -> Result<State, Fail>
     ensures { IfOk result (λ s. s.place ≡ 0) }
 {
@@ -50,4 +49,3 @@ pub fn start(alloc: Global, rax: u64, rcx: u64) -> Result<State, Fail>
     let regions = Vec::from_slice(alloc, &regions)?;
     Ok(State::new(regs, [Bytes32 { bytes: [0; 32] }; 16], spans, regions, 16))
 }
-

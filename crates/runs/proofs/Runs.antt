@@ -1,5 +1,5 @@
 -- Runs over states of any kind: a run that is over stays, and two runs of one start have one end.
-use Rattle.std.proofs.Common.{◌≡◌, ℕ, zero, suc, ◌+◌, ◌-◌, ◌<◌, ◌≤◌, refl, sym, ◌∙◌, ap, subst, add-zero, add-suc, add-one, add_comm, arith}
+use Rattle.std.proofs.Common.{◌≡◌, ℕ, zero, suc, ◌+◌, ◌-◌, ◌≤◌, refl, sym, ◌∙◌, ap, subst, add-zero, add-suc, add_comm, arith}
 use Rattle.runs.specs.Run.{Step, Goes, Returns, Faults, MeetsUnset, IsOver, Run, end_of, ended_by, later, run_of, stepped}
 use Rattle.runs.specs.declared.ends.RunEnd.{RunEnd}
 use Rattle.runs.specs.declared.ends.RunEnd.TheVariants.{Returned, Faulted, Unset, Running}
@@ -22,12 +22,15 @@ stays_over step s t e n m over le h =
     let more : n + (m - n) ≡ m = omega arith in
     subst (λ (k : ℕ). run_of step s k ≡ (t, e)) more (stays step s t e n (m - n) over h)
 
+-- a run that has returned stays as it is
 pub returned_stays : {S : Type 0} (step : S → Step S) (s t : S) (i n m : ℕ) → n ≤ m → run_of step s n ≡ (t, Returned i) → run_of step s m ≡ (t, Returned i)
 returned_stays step s t i n m le h = stays_over step s t (Returned i) n m tt le h
 
+-- a run that has faulted stays as it is
 pub faulted_stays : {S : Type 0} (step : S → Step S) (s t : S) (i n m : ℕ) → n ≤ m → run_of step s n ≡ (t, Faulted i) → run_of step s m ≡ (t, Faulted i)
 faulted_stays step s t i n m le h = stays_over step s t (Faulted i) n m tt le h
 
+-- a run that has met an unset flag stays as it is
 pub unset_stays : {S : Type 0} (step : S → Step S) (s t : S) (i n m : ℕ) → n ≤ m → run_of step s n ≡ (t, Unset i) → run_of step s m ≡ (t, Unset i)
 unset_stays step s t i n m le h = stays_over step s t (Unset i) n m tt le h
 

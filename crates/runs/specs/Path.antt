@@ -3,6 +3,7 @@ use Rattle.std.specs.Prelude.{◌≡◌, ℕ, suc, ◌==◌, ◌<◌, ◌≤◌,
 use Rattle.runs.specs.Run.{Step, Goes, Returns, Faults, MeetsUnset, run_of, guarded}
 use Rattle.runs.specs.declared.ends.RunEnd.TheVariants.{Faulted, Running}
 
+-- what a run does along a path and on into the next place
 pub data Way (S : Type 0) : Type 0 where
   Through : S → Way S  -- each step of the path was taken, and it stands at the next place
   Back : S → Way S  -- it returned at the path's last place, and no place follows
@@ -14,6 +15,7 @@ abbrev pub rested : {S : Type 0} → (S → ℕ) → Option ℕ → S → Way S
 rested place None s = Off
 rested place (Some n) s = if place s == n then Through s else Off
 
+-- a return with these places of the path left
 abbrev pub returned_at : {S : Type 0} → S → List ℕ → Option ℕ → Way S
 returned_at s [] None = Back s
 returned_at s [] (Some n) = Off
@@ -26,6 +28,7 @@ walked Returns s left next rest = returned_at s left next
 walked Faults s left next rest = Fell
 walked MeetsUnset s left next rest = Off
 
+-- what a run does along a path of places, and on into the next place, where there is one; it is off where it is not at a place's turn
 abbrev pub way : {S : Type 0} → (S → ℕ) → (S → Step S) → List ℕ → Option ℕ → S → Way S
 way place step [] next s = rested place next s
 way place step (p ∷ ps) next s = if place s == p then walked (step s) s ps next (way place step ps next) else Off
@@ -37,10 +40,12 @@ allowed_after Returns rest = true
 allowed_after Faults rest = true
 allowed_after MeetsUnset rest = true
 
+-- each test along a path holds, by the states of the free steps
 abbrev pub allowed_along : {S : Type 0} → (S → Bool) → (S → Step S) → List ℕ → S → Bool
 allowed_along allows free [] s = true
 allowed_along allows free (p ∷ ps) s = allows s && allowed_after (free s) (allowed_along allows free ps)
 
+-- the way goes through or back
 abbrev pub Arrived : {S : Type 0} → Way S → Type 0
 Arrived (Through t) = Unit {0}
 Arrived (Back t) = Unit {0}

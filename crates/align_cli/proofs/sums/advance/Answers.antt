@@ -1,7 +1,7 @@
 use Rattle.std.proofs.Common.{◌≡◌, ◌∙◌, ap, get_or, arith}
 use Rattle.std.proofs.lemmas.Option.{slice_get-get_or}
 use Rattle.insn_table.specs.declared.insn.Operand.TheVariants.{Reg}
-use Rattle.machine.specs.Straight.{computed}
+use Rattle.machine.specs.Straight.{plain_result}
 use Rattle.align_cli.specs.Sums.{sum_value}
 use Rattle.align_cli.proofs.Tracking.{regs_after-move, set-tracks}
 use Rattle.align_cli.proofs.sums.advance.Goals as goal
@@ -15,4 +15,4 @@ returns-in-Reg c = λ start regs t.
     let old = t.holds n _ (slice_get-get_or c.args.sums.now n _ (omega (arith, writes.0))) in
     rw (regs_after-move i m.source m.target n c.in-Reg.w regs m.move.args target_is)
     (set-tracks c.args.sums.now start regs n c.computed.result _ c.requires.sixteen writes.0 t
-    (c.computed.ensures start ∙ ap (λ v. computed i.op v (sum_value c.source_sum-source.result start)) old ∙ ap (λ v. computed i.op (get_or regs n 0) v) source))
+    (c.computed.ensures start ∙ ap (λ v. plain_result i.op v (sum_value c.source_sum-source.result start)) old ∙ ap (λ v. computed i.op (get_or regs n 0) v) source))

@@ -9,7 +9,7 @@ use std::test::Fail;
 
 const LAST: u64 = 18446744073709551615;
 
-// 32 bytes, of which the one at a place is 1, where it is one of them.
+/// 32 bytes, of which the one at a place is 1, where it is one of them.
 fn bytes_with(place: u64) -> [u8; 32] {
     let mut bytes = [0; 32];
     if place < 32 {
@@ -18,7 +18,7 @@ fn bytes_with(place: u64) -> [u8; 32] {
     bytes
 }
 
-// 32 bytes from an address on, of which the one at another address is 1, where it is one of them.
+/// 32 bytes from an address on, of which the one at another address is 1, where it is one of them.
 fn span_with(alloc: Global, at: u64, other: u64) -> Result<Span, Fail>
     ensures at { IfOk result (λ span. span.at ≡ at) }
     ensures bytes { IfOk result (λ span. length span.bytes.items ≡ 32) }
@@ -27,8 +27,8 @@ fn span_with(alloc: Global, at: u64, other: u64) -> Result<Span, Fail>
     Ok(Span { at, bytes })
 }
 
-// A state with this value of %rax, a byte 1 at a place of %ymm1, and a byte 1 at an address. The stack
-// range is the 16 bytes from 8184 on.
+/// A state with this value of %rax, a byte 1 at a place of %ymm1, and a byte 1 at an address. The stack
+/// range is the 16 bytes from 8184 on.
 fn state(alloc: Global, rax: u64, place: u64, at: u64) -> Result<State, Fail> {
     let mut regs = [0; 16];
     regs[0] = rax;
@@ -44,11 +44,16 @@ fn state(alloc: Global, rax: u64, place: u64, at: u64) -> Result<State, Fail> {
     Ok(State::new(regs, vecs, spans, Vec::new(alloc), 8))
 }
 
+/// The first difference of two states by the low 16 bits of `%rax` and the low half of `%ymm1`, but for
+/// the bytes from 4100 to 4103 and the last byte but one.
+fn first_difference(s: &State, t: &State) -> Option<Difference> {
+    let live = [Output::Reg { n: 0, w: 16 }, Output::Vec { n: 1, w: 128 }];
+    s.first_difference(t, &live, &[(4100, 4), (LAST - 1, 1)])
+}
+
 #[test]
 fn the_first_difference(rt: HostRuntime) -> Result<(), Fail> {
     let alloc = rt.alloc();
-    let live = [Output::Reg { n: 0, w: 16 }, Output::Vec { n: 1, w: 128 }];
-    let scratch = [(4100, 4), (LAST - 1, 1)];
     let zero = state(alloc, 0, 32, 0)?;
     for (rax, place, at, first) in [
         // equal states
@@ -75,8 +80,11 @@ fn the_first_difference(rt: HostRuntime) -> Result<(), Fail> {
         (0, 32, LAST, Some(Difference::Byte(LAST))),
     ] {
         let other = state(alloc, rax, place, at)?;
-        assert_eq!(rt; zero.first_difference(&other, &live, &scratch), first);
-        assert_eq!(rt; other.first_difference(&zero, &live, &scratch), first);
+        let both = (
+            first_difference(&zero, &other),
+            first_difference(&other, &zero),
+        );
+        assert_eq!(rt; both, (first, first));
     }
     Ok(())
 }

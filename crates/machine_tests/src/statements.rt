@@ -1,0 +1,64 @@
+//! Short forms of statements and operands.
+
+use insn_table::{Operand, Statement};
+
+pub const RAX: u8 = 0;
+
+pub const RCX: u8 = 1;
+
+pub const RSP: u8 = 4;
+
+pub const NONE: Operand = Operand::Nothing;
+
+pub const EAX: Operand = Operand::Reg { n: RAX, w: 32 };
+
+/// Memory at `%rcx`.
+pub const AT_RCX: Operand = Operand::Mem {
+    base: Some(RCX),
+    index: None,
+    scale: 1,
+    disp: 0,
+};
+
+/// `cmpl %eax,%eax`, which sets each flag.
+pub const COMPARE: Statement<'static> = Statement {
+    mnemonic: b"cmpl",
+    args: [EAX, EAX, NONE, NONE],
+};
+
+/// A statement with no operand.
+pub fn none(mnemonic: &'static [u8]) -> Statement<'static> {
+    Statement {
+        mnemonic,
+        args: [NONE; 4],
+    }
+}
+
+pub fn one(mnemonic: &'static [u8], first: Operand) -> Statement<'static> {
+    Statement {
+        mnemonic,
+        args: [first, NONE, NONE, NONE],
+    }
+}
+
+pub fn two(mnemonic: &'static [u8], first: Operand, second: Operand) -> Statement<'static> {
+    Statement {
+        mnemonic,
+        args: [first, second, NONE, NONE],
+    }
+}
+
+/// Register `n` of `w` bits.
+pub fn register(n: u8, w: u32) -> Operand {
+    Operand::Reg { n, w }
+}
+
+/// Memory at a register and a displacement.
+pub fn memory_at(base: u8, disp: i32) -> Operand {
+    Operand::Mem {
+        base: Some(base),
+        index: None,
+        scale: 1,
+        disp,
+    }
+}
