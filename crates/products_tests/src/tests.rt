@@ -29,8 +29,17 @@ fn edge(alloc: Global, from: u32, to: u32, left: &[u32], right: &[u32]) -> Resul
 /// The right function goes on along three edges, the left one along the last alone, where `last` is
 /// the left rank of the node before the exit.
 fn waiting_product(alloc: Global, last: u32) -> Result<Product, Fail> {
-    let nodes = vec![in alloc; node(alloc, 0, 0, 2), node(alloc, 0, 0, 0), node(alloc, 0, 1, 1), node(alloc, 0, 2, last)]?;
-    let edges = vec![in alloc; edge(alloc, 0, 2, &[], &[0])?, edge(alloc, 2, 3, &[], &[1])?, edge(alloc, 3, 1, &[0], &[2])?]?;
+    let nodes = vec![in alloc;
+        node(alloc, 0, 0, 2),
+        node(alloc, 0, 0, 0),
+        node(alloc, 0, 1, 1),
+        node(alloc, 0, 2, last),
+    ]?;
+    let edges = vec![in alloc;
+        edge(alloc, 0, 2, &[], &[0])?,
+        edge(alloc, 2, 3, &[], &[1])?,
+        edge(alloc, 3, 1, &[0], &[2])?,
+    ]?;
     Ok(Product {
         nodes: Items::from_vec(nodes),
         edges: Items::from_vec(edges),
