@@ -1,0 +1,4 @@
+pub mod LoopSteps
+pub mod TextLaws
+pub mod ClosedInsns
+pub mod ClosedTexts

@@ -1,0 +1,3 @@
+pub mod FunctionText
+pub mod Answers
+pub mod Reading

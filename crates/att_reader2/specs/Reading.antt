@@ -1,0 +1,49 @@
+-- What is read of a text, as functions on lists.
+use Rattle.std.specs.Prelude.{◌≡◌, ℕ, ◌+◌, ◌<◌, List, [], ◌∷◌, ◌++◌, Option, Some, None, Result, Ok, Err, length, take}
+use Rattle.std.specs.Str.Lines.{lines}
+use Rattle.align_base.specs.Firsts.{◌>>=◌, all_of}
+use Rattle.insn_table.specs.declared.insn.Insn.{Insn}
+use Rattle.insn_table.specs.declared.insn.Function.{Function}
+use Rattle.text_lines.specs.declared.refusal.ReadRefusal.{ReadRefusal}
+use Rattle.text_lines.specs.Lines.{Item}
+use Rattle.text_lines.specs.Kinds.{refusal}
+use Rattle.text_lines.specs.Cutting.{items_of_text}
+use Rattle.function_body.specs.Faults.{Fault}
+use Rattle.function_body.specs.Reading.{target_of, item_of, insns_of, insns_in}
+use Rattle.att_statements.specs.ReadingStatements.{statement_of}
+
+-- an answer with its fault as it is told
+abbrev pub told : {V : Type 0} → Result V Fault → Result V ReadRefusal
+told (Ok v) = Ok v
+told (Err e) = Err (refusal e.line e.kind)
+
+-- an answer's instruction as a list
+abbrev pub listed : Result (Option Insn) ReadRefusal → Result (List Insn) ReadRefusal
+listed (Ok None) = Ok []
+listed (Ok (Some i)) = Ok (i ∷ [])
+listed (Err e) = Err e
+
+abbrev pub single : Result Insn ReadRefusal → Result (List Insn) ReadRefusal
+single (Ok i) = Ok (i ∷ [])
+single (Err e) = Err e
+
+-- what an item of a body gives behind those before it
+unfoldable pub item_in : List Item → List Item → Item → Result (List Insn) Fault
+item_in body before item = item_of (statement_of (target_of body)) before item
+
+-- what a body gives
+unfoldable pub body_in : List Item → Result (List Insn) Fault
+body_in body = insns_of (statement_of (target_of body)) body
+
+-- the instructions that were read, and then what is left of a body behind n items
+unfoldable pub body_from : List Item → List Item → List Item → List Insn → Result (List Insn) Fault
+body_from body before rest insns = all_of (item_in body) before rest >>= λ more. Ok (insns ++ more)
+
+-- an item gave this much more
+abbrev pub Grows : Result (List Insn) Fault → List Insn → List Insn → Type 0
+Grows (Ok found) old new = new ≡ old ++ found
+Grows (Err e) old new = ⊥
+
+-- the instructions of the function of this name that a text spells, or the first fault of its items
+unfoldable pub insns_of_text : List ℕ → List ℕ → Result (List Insn) Fault
+insns_of_text text name = insns_in statement_of name (length (lines text)) (items_of_text text)
