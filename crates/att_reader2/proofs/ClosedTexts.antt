@@ -27,7 +27,7 @@ few_code : (IsBad : List ℕ → ReadKind → Type 0) (before : List Item) (x : 
 few_code IsBad before x k is code sound true e = ltb-true (count_by is_code before) 4096 e
 few_code IsBad before x k is code sound false e =
     absurd (sound (fault k TooManyInsns)
-      (fault-here (IsFault IsBad) before (Statement x k) is (fault k TooManyInsns) (inr (inr (refl, code, ltb-false (count_by is_code before) 4096 e)))))
+    (fault-here (IsFault IsBad) before (Statement x k) is (fault k TooManyInsns) (inr (inr (refl, code, ltb-false (count_by is_code before) 4096 e)))))
 
 statement_counts : (before : List Item) (x : List ℕ) (k : ℕ) (t : Bool) → is_directive x ≡ t → count_by is_code before ≤ 4096 → (t ≡ false → count_by is_code before < 4096)
     → count_by is_code (before ++ Statement x k ∷ []) ≤ 4096
@@ -82,8 +82,8 @@ function-closed name items insns f =
     let long = insns-long (IsInsnText (IsTarget f.body)) f.body insns f.read in
     let few : count_by is_code f.body ≤ 4096 = few-code (IsBadStatement (IsTarget f.body)) [] f.body f.sound (omega arith) in
     let right = spelled-each (IsInsnText (IsTarget f.body)) (λ i. IsTableInsn i × AllByRecursion (IsInside (length insns)) i.args)
-      (λ x line i is. insn-closed (length insns) (IsTarget f.body) x line i (λ n place leads. omega (arith, long, target-inside f.body n place leads)) is)
-      (filter is_code f.body) insns f.read in
+    (λ x line i is. insn-closed (length insns) (IsTarget f.body) x line i (λ n place leads. omega (arith, long, target-inside f.body n place leads)) is)
+    (filter is_code f.body) insns f.read in
     record {
       some = omega (arith, slice_get_within insns (length insns - 1) f.leaves.last f.leaves.there);
       few = omega (arith, long, few);

@@ -150,7 +150,7 @@ grows_by : (r : List ℕ → ℕ → Result Insn ReadKind) (before : List Item) 
 grows_by r before (Label name k) insns new grows = let e = none_grows (list_any (is_label name) before) (fault k TwiceLabel) insns new grows in omega arith
 grows_by r before (Statement x k) insns new grows =
     elim (is_directive x) as (λ (t : Bool). Grows (cond t (cond (is_data x) (Err (fault k DataInBody)) (Ok [])) (at_line k (r x (line_number k)) >>= counted (count_by is_code before) k)) insns new
-      → length new ≡ length insns + cond (cond t false true) 1 0) [
+    → length new ≡ length insns + cond (cond t false true) 1 0) [
       | true ↦ λ g. let e = none_grows (is_data x) (fault k DataInBody) insns new g in omega arith
       | false ↦ λ g. code_grows before x k (r x (line_number k)) insns new g
     ] grows

@@ -31,7 +31,12 @@ pub(crate) fn refused(line: usize, kind: ReadKind) -> ReadRefusal
 }
 
 /// The instruction of a statement on this line, where `count` others stand before it.
-fn read_insn(text: &[u8], line: usize, count: usize, labels: &BodyLabels<'_, '_>) -> Result<Insn, ReadRefusal>
+fn read_insn(
+    text: &[u8],
+    line: usize,
+    count: usize,
+    labels: &BodyLabels<'_, '_>,
+) -> Result<Insn, ReadRefusal>
     ensures { single result ≡ told (at_line line (statement_of (target_of (labelled labels.now)) text.now (line_number line)) >>= counted count line) }
 {
     match statement(text, saturated(line), labels) {
@@ -48,7 +53,12 @@ fn read_insn(text: &[u8], line: usize, count: usize, labels: &BodyLabels<'_, '_>
 
 /// What the item at this place of a body gives, where `count` instructions stand before it.
 #[tactic(auto, unfolding(crate::specs::Reading::item_in))]
-fn read_item(item: &Item<'_>, place: usize, count: usize, labels: &BodyLabels<'_, '_>) -> Result<Option<Insn>, ReadRefusal>
+fn read_item(
+    item: &Item<'_>,
+    place: usize,
+    count: usize,
+    labels: &BodyLabels<'_, '_>,
+) -> Result<Option<Insn>, ReadRefusal>
     requires { count ≡ count_by is_code (take place (labelled labels.now)) }
     ensures { listed result ≡ told (item_in (labelled labels.now) (take place (labelled labels.now)) (seen item.now)) }
 {
@@ -75,7 +85,12 @@ fn read_item(item: &Item<'_>, place: usize, count: usize, labels: &BodyLabels<'_
 }
 
 /// Puts what the item at this place gives behind the instructions before it.
-fn read_next(insns: &mut Vec<Insn>, item: &Item<'_>, place: usize, labels: &BodyLabels<'_, '_>) -> Result<(), ReadRefusal>
+fn read_next(
+    insns: &mut Vec<Insn>,
+    item: &Item<'_>,
+    place: usize,
+    labels: &BodyLabels<'_, '_>,
+) -> Result<(), ReadRefusal>
     requires { vec_len insns.old ≡ count_by is_code (take place (labelled labels.now)) }
     ensures grows { OnOk result (Grows (item_in (labelled labels.now) (take place (labelled labels.now)) (seen item.now)) insns.old.items insns.new.items) }
     ensures stops { IfErr result (λ e. UnlessMemory e.kind e.line (told (item_in (labelled labels.now) (take place (labelled labels.now)) (seen item.now)) ≡ Err e)) }

@@ -55,10 +55,10 @@ split-body name items item rest behind first is =
     let long : length items ≡ length (item ∷ rest) = ap length first in
     let place : length items - length behind ≡ length (seen item ∷ inside) = omega (arith, behind_shorter name rest behind is) in
     let whole : map seen items ≡ (seen item ∷ inside) ++ behind_body name (map seen rest) =
-      ap (map seen) first ∙ ap (λ (x : List Item). seen item ∷ x) (inside-known name (map seen rest)).0 in
+    ap (map seen) first ∙ ap (λ (x : List Item). seen item ∷ x) (inside-known name (map seen rest)).0 in
     let body : map seen (take (length items - length behind) items) ≡ seen item ∷ inside =
-      sym (take-map seen (length items - length behind) items) ∙ ap (take (length items - length behind)) whole
-      ∙ take_front (seen item ∷ inside) (behind_body name (map seen rest)) (length items - length behind) place in
+    sym (take-map seen (length items - length behind) items) ∙ ap (take (length items - length behind)) whole
+    ∙ take_front (seen item ∷ inside) (behind_body name (map seen rest)) (length items - length behind) place in
     ap (λ (x : List Item). (x, map seen behind)) body ∙ ap (λ (x : List Item). (seen item ∷ inside, x)) is
     ∙ ap (body_split name) (sym (ap (map seen) first))
 
@@ -116,7 +116,6 @@ insert-lookup : (name : List ℕ) (es : List (Bor (List ℕ) × First)) (k : Bor
 insert-lookup name [] k v = ap (λ t. cond t (Some v) None) (is_eq-slice_cmp name k.now)
 insert-lookup name (e ∷ es) k v =
     insert_by name e es k v (slice_cmp nat_cmp k.now e.0.now) refl (insert-lookup name es k v)
-
 
 absent_first : (s : Bool) (o : Option First) (v : First) → (s ≡ true → o ≡ None) → cond {A = Option First} s (Some v) o ≡ option_or o (cond s (Some v) None)
 absent_first true None v absent = refl
@@ -229,8 +228,8 @@ unfolding target_from first_from
 target_from_first k n m [] name whole = refl
 target_from_first k n m (i ∷ is) name whole =
     elim (is_label name i) as (λ (t : Bool). is_label name i ≡ t
-      → cond t (cond (list_any is_code is) (Some (min n (2 ^ 32 - 1))) None) (target_from (n + count_of i) is name)
-      ≡ target_by m (cond t (Some (record { item = k; insns = n })) (first_from (k + 1) (n + count_of i) is name))) [
+    → cond t (cond (list_any is_code is) (Some (min n (2 ^ 32 - 1))) None) (target_from (n + count_of i) is name)
+    ≡ target_by m (cond t (Some (record { item = k; insns = n })) (first_from (k + 1) (n + count_of i) is name))) [
       | true ↦ λ e.
           let none : ◌≡◌ {A = ℕ} (cond (is_code i) 1 0) 0 = ap (λ (t : Bool). cond {A = ℕ} t 1 0) (label_no_code name i e) in
           ap (λ t. cond t (Some (min n (2 ^ 32 - 1))) None) (any_by_count n m is (list_any is_code is) refl (omega (arith, count-cons is_code i is)))
@@ -298,14 +297,14 @@ pub last-shared : (lines : ℕ) (body after : List KeptItem) (ending : KeptItem)
     → list_any (λ i. eqb (line_of i) line) (map seen body) ≡ true → line ≡ last_line lines (map seen body) (map seen after)
 last-shared lines body after ending more line is number some =
     let shared : list_any (λ i. eqb (line_of i) (line_of (seen ending))) (map seen body) ≡ true =
-      ap (λ n. list_any (λ i. eqb (line_of i) n) (map seen body)) (sym number) ∙ some in
+    ap (λ n. list_any (λ i. eqb (line_of i) n) (map seen body)) (sym number) ∙ some in
     number ∙ sym (ap (λ (x : List KeptItem). last_line lines (map seen body) (map seen x)) is ∙ ap (λ t. cond t (line_of (seen ending)) (line_of (seen ending) - 1)) shared)
 
 pub last-before : (lines : ℕ) (body after : List KeptItem) (ending : KeptItem) (more : List KeptItem) (line result : ℕ) → after ≡ ending ∷ more → line ≡ line_of (seen ending)
     → list_any (λ i. eqb (line_of i) line) (map seen body) ≡ false → result ≡ line - 1 → result ≡ last_line lines (map seen body) (map seen after)
 last-before lines body after ending more line result is number none less =
     let alone : list_any (λ i. eqb (line_of i) (line_of (seen ending))) (map seen body) ≡ false =
-      ap (λ n. list_any (λ i. eqb (line_of i) n) (map seen body)) (sym number) ∙ none in
+    ap (λ n. list_any (λ i. eqb (line_of i) n) (map seen body)) (sym number) ∙ none in
     less ∙ ap (λ n. n - 1) number
     ∙ sym (ap (λ (x : List KeptItem). last_line lines (map seen body) (map seen x)) is ∙ ap (λ t. cond t (line_of (seen ending)) (line_of (seen ending) - 1)) alone)
 

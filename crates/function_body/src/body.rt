@@ -130,13 +130,7 @@ pub fn count_of(item: &Item<'_>) -> usize
 {
     match item {
         Item::Label { .. } => 0,
-        Item::Statement { text, .. } => {
-            if is_directive(text) {
-                0
-            } else {
-                1
-            }
-        }
+        Item::Statement { text, .. } => { if is_directive(text) { 0 } else { 1 } }
     }
 }
 
@@ -170,7 +164,10 @@ fn body_split<'i, 't>(name: &[u8], items: &'i [Item<'t>]) -> (&'i [Item<'t>], &'
 
 /// The body of the function of this name, and what stands behind it, if a label has that name.
 #[tactic(auto, unfolding(crate::specs::Reading::extent_of))]
-pub fn extent<'i, 't>(name: &[u8], items: &'i [Item<'t>]) -> Option<(&'i [Item<'t>], &'i [Item<'t>])>
+pub fn extent<'i, 't>(
+    name: &[u8],
+    items: &'i [Item<'t>],
+) -> Option<(&'i [Item<'t>], &'i [Item<'t>])>
     ensures { option_map (λ found. (map seen found.0.now, map seen found.1.now)) result ≡ extent_of name.now (map seen items.now) }
 {
     let mut rest = items;

@@ -34,7 +34,11 @@ pub struct BodyLabels<'i, 't> {
 }
 
 /// Puts the first label of a name into a map, unless it has one.
-fn add_first<'t>(firsts: &mut BTreeMap<&'t [u8], First>, name: &'t [u8], first: First) -> Result<(), ReadRefusal>
+fn add_first<'t>(
+    firsts: &mut BTreeMap<&'t [u8], First>,
+    name: &'t [u8],
+    first: First,
+) -> Result<(), ReadRefusal>
     ensures added { OnOk result ((other : List ℕ) → get_by (λ key. slice_cmp nat_cmp other key.now) firsts.new
         ≡ option_or (get_by (λ key. slice_cmp nat_cmp other key.now) firsts.old) (if bytes_eq name.now other then Some first else None)) }
     ensures memory { IfErr result (λ e. e ≡ out_of_memory) }
@@ -46,7 +50,11 @@ fn add_first<'t>(firsts: &mut BTreeMap<&'t [u8], First>, name: &'t [u8], first: 
 }
 
 /// Puts the label of an item into a map as the first of its name, unless the map has one.
-fn add_item<'t>(firsts: &mut BTreeMap<&'t [u8], First>, item: &Item<'t>, first: First) -> Result<(), ReadRefusal>
+fn add_item<'t>(
+    firsts: &mut BTreeMap<&'t [u8], First>,
+    item: &Item<'t>,
+    first: First,
+) -> Result<(), ReadRefusal>
     ensures added { OnOk result ((name : List ℕ) → get_by (λ key. slice_cmp nat_cmp name key.now) firsts.new
         ≡ option_or (get_by (λ key. slice_cmp nat_cmp name key.now) firsts.old) (if is_label name (seen item.now) then Some first else None)) }
     ensures memory { IfErr result (λ e. e ≡ out_of_memory) }
