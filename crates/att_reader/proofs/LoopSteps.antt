@@ -1,62 +1,190 @@
--- The instructions of lines, read one by one: what is read so far, and what is left.
-use Rattle.std.proofs.Common.{◌≡◌, ℕ, Bool, true, false, List, [], ◌∷◌, ◌++◌, Option, Some, None, Result, Ok, Err, codes, refl, sym, ap, subst, append-nil, append_assoc}
-use Rattle.std.specs.Str.{bytes_eq}
-use Rattle.std.specs.Str.Lines.{lines}
-use Rattle.align_base.specs.Firsts.{◌>>=◌}
+-- Single turns of the code: items of a body that are read one after another, and what is told of a whole body.
+use Rattle.std.proofs.Common.{◌≡◌, ℕ, ◌+◌, ◌<◌, ◌≤◌, Bool, true, false, cond, ltb, List, [], ◌∷◌, ◌++◌, length, take, drop, get_or, map, Option, Some, None, Result, Ok, Err, refl, sym, ap, ◌∙◌, subst, append-nil, append_assoc, add-one, drop-cons, arith}
+use Rattle.std.specs.List.{list_any, count_by}
+use Rattle.std.proofs.Math.Seq.{take-suc}
+use Rattle.std.proofs.Math.ListN.{drop_of_length-le}
+use Rattle.std.proofs.lemmas.List.{length-map, length-append, take-map, drop-map, map-append}
+use Rattle.align_base.specs.Firsts.{◌>>=◌, all_of}
 use Rattle.insn_table.specs.declared.insn.Insn.{Insn}
-use Rattle.att_reader.specs.declared.refusal.ReadKind.TheVariants.{UnknownInstruction, FallsOff}
-use Rattle.att_reader.specs.declared.refusal.ReadRefusal.{ReadRefusal}
-use Rattle.att_reader.specs.Refusals.{refusal, UnlessMemory}
-use Rattle.att_reader.specs.Reading.{first_line, insn_in}
-use Rattle.att_reader.specs.ReadingLines.{next_line, known_or, read_line, insns_behind, GivesInsns}
-use Rattle.att_reader.proofs.TextLines.{lines-some, lines-none}
+use Rattle.text_lines.specs.declared.refusal.ReadKind.{ReadKind}
+use Rattle.text_lines.specs.declared.refusal.ReadKind.TheVariants.{Memory, NotUtf8, LineLong, NoFunction, TwiceLabel, DataInBody, UnknownInstruction, PoolRefused, BadOperand, BadNumber, UnknownLabel, TooManyInsns, FallsOff}
+use Rattle.text_lines.specs.declared.refusal.ReadRefusal.{ReadRefusal}
+use Rattle.text_lines.specs.declared.items.Item.{Item as KeptItem}
+use Rattle.text_lines.specs.Lines.{Item, Label, Statement}
+use Rattle.text_lines.specs.Kinds.{refusal, line_number}
+use Rattle.text_lines.specs.Views.{seen}
+use Rattle.function_body.specs.Body.{is_label, is_directive, is_code}
+use Rattle.function_body.specs.Faults.{Fault, fault, is_data}
+use Rattle.function_body.specs.Functions.{last_line}
+use Rattle.function_body.specs.Reading.{extent_of, insns_of, item_of, at_line, counted, leaves, insns_in}
+use Rattle.function_body.proofs.Counts.{count-push}
+use Rattle.att_statements.specs.ReadingStatements.{statement_of}
+use Rattle.att_reader.specs.Answers.{UnlessMemory, Gives}
+use Rattle.att_reader.specs.Reading.{told, listed, single, item_in, body_in, body_from, Grows, insns_of_text}
 
--- what the lines that are left give, behind the instructions so far
-abbrev pub behind_those : List Insn → Result (List Insn) ReadRefusal → Result (List Insn) ReadRefusal
-behind_those insns left = left >>= λ more. Ok (insns ++ more)
+-- answers
 
-behind_those-cons : (insns : List Insn) (i : Insn) (left : Result (List Insn) ReadRefusal) → behind_those insns (left >>= λ more. Ok (i ∷ more)) ≡ behind_those (insns ++ i ∷ []) left
-behind_those-cons insns i (Ok more) = ap (λ (x : List Insn). Ok x) (sym (append_assoc insns (i ∷ []) more))
-behind_those-cons insns i (Err e) = refl
+-- what follows from what is said unless memory was not found
+pub unless-map : {P Q : Type 0} (kind : ReadKind) (line : ℕ) → (P → Q) → UnlessMemory kind line P → UnlessMemory kind line Q
+unless-map Memory line f h = h
+unless-map NotUtf8 line f h = f h
+unless-map LineLong line f h = f h
+unless-map NoFunction line f h = f h
+unless-map TwiceLabel line f h = f h
+unless-map DataInBody line f h = f h
+unless-map UnknownInstruction line f h = f h
+unless-map PoolRefused line f h = f h
+unless-map BadOperand line f h = f h
+unless-map BadNumber line f h = f h
+unless-map UnknownLabel line f h = f h
+unless-map TooManyInsns line f h = f h
+unless-map FallsOff line f h = f h
 
-module _ (returned : Bool) (line next : ℕ) (rest here after : List ℕ) (is : first_line rest ≡ Some (here, after)) (counted : next ≡ next_line line) where
-  -- a line that is read
-  pub left-more : (insns kept : List Insn) (i : Insn) (ret : List ℕ) (ends : Bool) → read_line returned here next ≡ Ok i
-      → kept ≡ insns ++ i ∷ [] → ends ≡ bytes_eq here ret → ret ≡ codes "ret"
-      → behind_those insns (insns_behind returned line (lines rest)) ≡ behind_those kept (insns_behind ends next (lines after))
-  unfolding insns_behind
-  left-more insns kept i ret ends read more returns spelled =
-      let cut = (lines-some rest here after is).0 in
-      rw (cut, ← counted, read, returns, spelled, more) (behind_those-cons insns i (insns_behind (bytes_eq here (codes "ret")) next (lines after)))
+err_same : {V : Type 0} (a b : ReadRefusal) → ◌≡◌ {A = Result V ReadRefusal} (Err a) (Err b) → a ≡ b
+err_same a b h = cc
 
-  -- a line that is not
-  pub left-stop : (insns : List Insn) (e : ReadRefusal) → read_line returned here next ≡ Err e
-      → behind_those insns (insns_behind returned line (lines rest)) ≡ Err e
-  unfolding insns_behind
-  left-stop insns e read = let cut = (lines-some rest here after is).0 in rw (cut, ← counted, read)
+-- an answer that is told is one of a fault
+pub told-err : {V : Type 0} (r : Result V Fault) (e : ReadRefusal) → told r ≡ Err e → (f : Fault) × (r ≡ Err f) × (e ≡ refusal f.line f.kind)
+told-err (Ok v) e h = cc
+told-err {V = V} (Err f) e h = (f, refl, sym (err_same {V = V} (refusal f.line f.kind) e h))
 
--- behind the last line, if it returns
-pub left-ends : (line : ℕ) (rest : List ℕ) (insns : List Insn) → first_line rest ≡ None → behind_those insns (insns_behind true line (lines rest)) ≡ Ok insns
-unfolding insns_behind
-left-ends line rest insns is = let cut = lines-none rest is in rw cut (ap (λ (x : List Insn). Ok x) (append-nil insns))
+pub told-ok : {V : Type 0} (r : Result V Fault) (v : V) → told r ≡ Ok v → r ≡ Ok v
+told-ok (Ok w) v h = cc
+told-ok (Err f) v h = cc
 
--- behind the last line, if it does not
-pub left-falls : (line : ℕ) (rest : List ℕ) (insns : List Insn) → first_line rest ≡ None → behind_those insns (insns_behind false line (lines rest)) ≡ Err (refusal line FallsOff)
-unfolding insns_behind
-left-falls line rest insns is = let cut = lines-none rest is in rw cut
+-- items
 
-known_or-err : (line : ℕ) (found : Option Insn) (e : ReadRefusal) → known_or line found ≡ Err e → refusal line UnknownInstruction ≡ e
-known_or-err line (Some i) e h = cc
-known_or-err line None e h = cc
+module _ (r : List Item → Item → Result (List Insn) Fault) where
+  then_by : (insns new found : List Insn) (later : Result (List Insn) Fault) → new ≡ insns ++ found
+      → (later >>= λ more. Ok (found ++ more)) >>= (λ more. Ok (insns ++ more)) ≡ later >>= λ more. Ok (new ++ more)
+  then_by insns new found (Ok more) grows = ap (λ (x : List Insn). Ok x) (sym (append_assoc insns found more) ∙ ap (λ (x : List Insn). x ++ more) (sym grows))
+  then_by insns new found (Err e) grows = refl
 
-read_line-err : (returned : Bool) (text : List ℕ) (line : ℕ) (e : ReadRefusal) → read_line returned text line ≡ Err e → refusal line UnknownInstruction ≡ e
-unfolding read_line
-read_line-err true text line e h = cc
-read_line-err false text line e h = known_or-err line (insn_in text line) e h
+  from_by : (before rest : List Item) (i : Item) (insns new : List Insn) (step : Result (List Insn) Fault) → Grows step insns new
+      → (step >>= λ found. (all_of r (before ++ i ∷ []) rest >>= λ more. Ok (found ++ more))) >>= (λ more. Ok (insns ++ more))
+      ≡ all_of r (before ++ i ∷ []) rest >>= λ more. Ok (new ++ more)
+  from_by before rest i insns new (Ok found) grows = then_by insns new found (all_of r (before ++ i ∷ []) rest) grows
+  from_by before rest i insns new (Err e) grows = absurd grows
 
--- a line that is not read is the answer
-pub gives-stop : (right : Result (List Insn) ReadRefusal) (returned : Bool) (text : List ℕ) (line : ℕ) (e : ReadRefusal)
-    → read_line returned text line ≡ Err e → right ≡ Err e → GivesInsns (Err e) right
-gives-stop right returned text line e read is =
-    let same = read_line-err returned text line e read in
-    subst (λ (x : ReadRefusal). right ≡ Err x → UnlessMemory x.kind x.line (right ≡ Err x)) same (λ h. h) is
+  -- one item more
+  pub from-next : (before rest : List Item) (i : Item) (insns new : List Insn) → Grows (r before i) insns new
+      → all_of r before (i ∷ rest) >>= (λ more. Ok (insns ++ more)) ≡ all_of r (before ++ i ∷ []) rest >>= λ more. Ok (new ++ more)
+  unfolding all_of
+  from-next before rest i insns new grows = from_by before rest i insns new (r before i) grows
+
+  stop_by : (before rest : List Item) (i : Item) (insns : List Insn) (step : Result (List Insn) Fault) (e : ReadRefusal) → told step ≡ Err e
+      → told ((step >>= λ found. (all_of r (before ++ i ∷ []) rest >>= λ more. Ok (found ++ more))) >>= (λ more. Ok (insns ++ more))) ≡ Err e
+  stop_by before rest i insns (Ok found) e h = cc
+  stop_by before rest i insns (Err f) e h = h
+
+  -- an item that is not read
+  pub from-stop : (before rest : List Item) (i : Item) (insns : List Insn) (e : ReadRefusal) → told (r before i) ≡ Err e
+      → told (all_of r before (i ∷ rest) >>= (λ more. Ok (insns ++ more))) ≡ Err e
+  unfolding all_of
+  from-stop before rest i insns e h = stop_by before rest i insns (r before i) e h
+
+begin_by : (found : Result (List Insn) Fault) → found >>= (λ more. Ok ([] ++ more)) ≡ found
+begin_by (Ok more) = refl
+begin_by (Err e) = refl
+
+-- the first item
+pub body-begins : (body : List Item) (insns : List Insn) → insns ≡ [] → body_from body [] body insns ≡ body_in body
+unfolding body_from body_in item_in
+body-begins body insns none = ap (λ (x : List Insn). all_of (item_in body) [] body >>= λ more. Ok (x ++ more)) none ∙ begin_by (all_of (item_in body) [] body)
+
+-- behind the last item
+pub body-ends : (body before rest : List Item) (insns : List Insn) → rest ≡ [] → body_from body before rest insns ≡ Ok insns
+unfolding body_from all_of
+body-ends body before rest insns none =
+    ap (λ (x : List Item). all_of (item_in body) before x >>= λ more. Ok (insns ++ more)) none ∙ ap (λ (x : List Insn). Ok x) (append-nil insns)
+
+take_next : (items : List KeptItem) (n : ℕ) (d : KeptItem) → n < length items → take (n + 1) (map seen items) ≡ take n (map seen items) ++ seen (get_or items n d) ∷ []
+take_next items n d within =
+    let here : take (n + 1) items ≡ take n items ++ get_or items n d ∷ [] = rw add-one (take-suc items n d within) in
+    take-map seen (n + 1) items ∙ ap (map seen) here ∙ map-append seen (take n items) (get_or items n d ∷ []) ∙ ap (λ (x : List Item). x ++ seen (get_or items n d) ∷ []) (sym (take-map seen n items))
+
+drop_next : (items : List KeptItem) (n : ℕ) (d : KeptItem) → n < length items → drop n (map seen items) ≡ seen (get_or items n d) ∷ drop (n + 1) (map seen items)
+drop_next items n d within =
+    let here : drop n items ≡ get_or items n d ∷ drop (n + 1) items = rw (add-one, drop-cons items n d) refl in
+    drop-map seen n items ∙ ap (map seen) here ∙ ap (λ (x : List Item). seen (get_or items n d) ∷ x) (sym (drop-map seen (n + 1) items))
+
+module _ (kept : List KeptItem) (n : ℕ) (d : KeptItem) (within : n < length kept) where
+  -- a turn of the loop that reads an item
+  pub turn-next : (insns new : List Insn) → Grows (item_in (map seen kept) (take n (map seen kept)) (seen (get_or kept n d))) insns new
+      → body_from (map seen kept) (take n (map seen kept)) (drop n (map seen kept)) insns
+      ≡ body_from (map seen kept) (take (n + 1) (map seen kept)) (drop (n + 1) (map seen kept)) new
+  unfolding body_from
+  turn-next insns new grows =
+      let body = map seen kept in
+      let i : Item = seen (get_or kept n d) in
+      ap (λ (x : List Item). all_of (item_in body) (take n body) x >>= λ more. Ok (insns ++ more)) (drop_next kept n d within)
+      ∙ from-next (item_in body) (take n body) (drop (n + 1) body) i insns new grows
+      ∙ ap (λ (x : List Item). all_of (item_in body) x (drop (n + 1) body) >>= λ more. Ok (new ++ more)) (sym (take_next kept n d within))
+
+  -- a turn that stops
+  pub turn-stops : (insns : List Insn) (e : ReadRefusal) → told (item_in (map seen kept) (take n (map seen kept)) (seen (get_or kept n d))) ≡ Err e
+      → told (body_from (map seen kept) (take n (map seen kept)) (drop n (map seen kept)) insns) ≡ Err e
+  unfolding body_from
+  turn-stops insns e stops =
+      let body = map seen kept in
+      ap (λ (x : List Item). told (all_of (item_in body) (take n body) x >>= λ more. Ok (insns ++ more))) (drop_next kept n d within)
+      ∙ from-stop (item_in body) (take n body) (drop (n + 1) body) (seen (get_or kept n d)) insns e stops
+
+pub items-gone : (kept : List KeptItem) (n : ℕ) → length kept ≤ n → drop n (map seen kept) ≡ []
+items-gone kept n past = drop_of_length-le (map seen kept) (omega (arith, length-map kept seen))
+
+-- an item that is read gives as many instructions as it is
+code_grows : (before : List Item) (x : List ℕ) (k : ℕ) (found : Result Insn ReadKind) (insns new : List Insn)
+    → Grows (at_line k found >>= counted (count_by is_code before) k) insns new → length new ≡ length insns + 1
+code_grows before x k (Err kind) insns new grows = absurd grows
+code_grows before x k (Ok i) insns new grows =
+    elim (ltb (count_by is_code before) 4096) as (λ (t : Bool). Grows (cond t (Ok (i ∷ [])) (Err (fault k TooManyInsns))) insns new → length new ≡ length insns + 1)
+    [ true ↦ λ g. omega (arith, ap length g, length-append insns (i ∷ [])) | false ↦ λ g. absurd g ] grows
+
+none_grows : (t : Bool) (f : Fault) (insns new : List Insn) → Grows (cond t (Err f) (Ok [])) insns new → length new ≡ length insns
+none_grows true f insns new grows = absurd grows
+none_grows false f insns new grows = omega (arith, ap length grows, length-append insns [])
+
+grows_by : (r : List ℕ → ℕ → Result Insn ReadKind) (before : List Item) (i : Item) (insns new : List Insn) → Grows (item_of r before i) insns new
+    → length new ≡ length insns + cond (is_code i) 1 0
+grows_by r before (Label name k) insns new grows = let e = none_grows (list_any (is_label name) before) (fault k TwiceLabel) insns new grows in omega arith
+grows_by r before (Statement x k) insns new grows =
+    elim (is_directive x) as (λ (t : Bool). Grows (cond t (cond (is_data x) (Err (fault k DataInBody)) (Ok [])) (at_line k (r x (line_number k)) >>= counted (count_by is_code before) k)) insns new
+    → length new ≡ length insns + cond (cond t false true) 1 0) [
+      | true ↦ λ g. let e = none_grows (is_data x) (fault k DataInBody) insns new g in omega arith
+      | false ↦ λ g. code_grows before x k (r x (line_number k)) insns new g
+    ] grows
+
+-- so as many are read as stand before the next item
+pub turn-counts : (kept : List KeptItem) (n : ℕ) (d : KeptItem) (insns new : List Insn) → n < length kept → length insns ≡ count_by is_code (take n (map seen kept))
+    → Grows (item_in (map seen kept) (take n (map seen kept)) (seen (get_or kept n d))) insns new → length new ≡ count_by is_code (take (n + 1) (map seen kept))
+unfolding item_in
+turn-counts kept n d insns new within before grows =
+    let i : Item = seen (get_or kept n d) in
+    let more = grows_by _ (take n (map seen kept)) i insns new grows in
+    let whole : count_by is_code (take (n + 1) (map seen kept)) ≡ count_by is_code (take n (map seen kept) ++ i ∷ []) = ap (count_by is_code) (take_next kept n d within) in
+    omega (arith, count-push is_code (take n (map seen kept)) i)
+
+-- whole texts
+
+module _ (name : List ℕ) (lines_of : ℕ) (items : List Item) where
+  -- no label has the name
+  pub text-missing : extent_of name items ≡ None → told (insns_in statement_of name lines_of items) ≡ Err (refusal 0 NoFunction)
+  text-missing none = rw none refl
+
+  module _ (body after : List Item) (found : extent_of name items ≡ Some (body, after)) where
+    -- the body has a fault
+    pub text-stops : (e : ReadRefusal) → told (body_in body) ≡ Err e → told (insns_in statement_of name lines_of items) ≡ Err e
+    unfolding body_in item_in
+    text-stops e stops = let f = told-err (body_in body) e stops in rw found (rw f.1 (ap (λ (x : ReadRefusal). Err x) (sym f.2)))
+
+    -- the last instruction leaves
+    pub text-closed : (insns : List Insn) → told (body_in body) ≡ Ok insns → leaves insns ≡ true → told (insns_in statement_of name lines_of items) ≡ Ok insns
+    unfolding body_in item_in
+    text-closed insns read closed = let e = told-ok (body_in body) insns read in rw (found, e, closed) refl
+
+    -- it goes on
+    pub text-open : (insns : List Insn) → told (body_in body) ≡ Ok insns → leaves insns ≡ false
+        → told (insns_in statement_of name lines_of items) ≡ Err (refusal (last_line lines_of body after) FallsOff)
+    unfolding body_in item_in
+    text-open insns read goes_on = let e = told-ok (body_in body) insns read in rw (found, e, goes_on) refl

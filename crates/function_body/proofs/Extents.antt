@@ -10,7 +10,8 @@ use Rattle.function_body.specs.Reading.{inside_of, behind_body, extent_of}
 abbrev pub IsEnded : List ℕ → List Item → Type 0
 IsEnded name after = (after ≡ []) ⊎ ((ending : Item) × (more : List Item) × (after ≡ ending ∷ more) × (ends_body name ending ≡ true))
 
-inside-known : (name : List ℕ) (items : List Item)
+-- items are cut where the first stands that ends the body
+pub inside-known : (name : List ℕ) (items : List Item)
     → (items ≡ inside_of name items ++ behind_body name items) × (list_any (ends_body name) (inside_of name items) ≡ false) × IsEnded name (behind_body name items)
 unfolding inside_of behind_body
 inside-known name [] = (refl, refl, inl refl)

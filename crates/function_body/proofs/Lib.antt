@@ -3,3 +3,4 @@ pub mod Extents
 pub mod Targets
 pub mod Outcomes
 pub mod BodyLaws
+pub mod CodeSteps

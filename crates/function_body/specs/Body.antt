@@ -25,9 +25,13 @@ abbrev pub is_local : List ℕ → Bool
 is_local (a ∷ b ∷ bs) = (a == 46) && (b == 76)
 is_local _ = false
 
+-- neither a blank nor a comma
+abbrev pub is_symbol_byte : ℕ → Bool
+is_symbol_byte b = is_solid b && not (b == 44)
+
 -- the symbol behind a directive's word: up to a blank or a comma
 unfoldable pub symbol_of : List ℕ → List ℕ
-symbol_of x = prefix_of (λ b. is_solid b && not (b == 44)) (behind_prefix is_blank (behind_prefix is_solid x))
+symbol_of x = prefix_of is_symbol_byte (behind_prefix is_blank (behind_prefix is_solid x))
 
 -- the directives that end the function of this name
 unfoldable pub ends_function : List ℕ → List ℕ → Bool

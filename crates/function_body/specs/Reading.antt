@@ -24,10 +24,15 @@ unfoldable pub behind_body : List ℕ → List Item → List Item
 behind_body name [] = []
 behind_body name (i ∷ is) = if ends_body name i then i ∷ is else behind_body name is
 
+-- the body that begins with the first item, and what stands behind it
+abbrev pub body_split : List ℕ → List Item → List Item × List Item
+body_split name [] = ([], [])
+body_split name (i ∷ is) = (i ∷ inside_of name is, behind_body name is)
+
 -- the body of the function of this name, and what stands behind it
 unfoldable pub extent_of : List ℕ → List Item → Option (List Item × List Item)
 extent_of name [] = None
-extent_of name (i ∷ is) = if is_label name i then Some (i ∷ inside_of name is, behind_body name is) else extent_of name is
+extent_of name (i ∷ is) = if is_label name i then Some (body_split name (i ∷ is)) else extent_of name is
 
 abbrev pub count_of : Item → ℕ
 count_of i = if is_code i then 1 else 0

@@ -2,5 +2,7 @@
 #![tactic(auto)]
 
 mod body;
+mod labels;
 
-pub use body::leaves;
+pub use body::{extent, is_data, is_directive, last_line, leaves};
+pub use labels::BodyLabels;

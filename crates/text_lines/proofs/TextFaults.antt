@@ -88,3 +88,11 @@ pub long-once : (text : List ℕ) (a b : ℕ) → IsLongLine text a → IsLongLi
 long-once text a b one two =
     let same = same_length one.before two.before one.long two.long one.after two.after (sym one.there ∙ two.there) one.wrong two.wrong one.first two.first in
     omega (arith, one.line, two.line)
+
+-- where none is found all lines are short
+pub short-known : (text : List ℕ) → long_line 1 (lines text) ≡ None → list_any is_long (lines text) ≡ false
+short-known text none = subst (IsFound 1 (lines text)) none (found 1 (lines text))
+
+-- where all lines are short none is long
+pub short-differs : (text : List ℕ) (k : ℕ) → list_any is_long (lines text) ≡ false → IsLongLine text k → ⊥
+short-differs text k none h = both_ways _ (none_before (lines text) h.before h.long h.after h.there none) h.wrong

@@ -12,5 +12,5 @@ pub use cuts::{first_line, visible_part};
 pub use faults::{long_line, wrong_line};
 pub use items::{Item, items_in};
 pub use labels::Labels;
-pub use refusal::{ReadKind, ReadRefusal};
-pub use words::{is_blank, is_digit, is_name, is_name_byte, is_name_start, split_word, trim};
+pub use refusal::{ReadKind, ReadRefusal, saturated};
+pub use words::{is_blank, is_digit, is_name, is_name_byte, is_name_start, split_word, trim, behind_blanks};

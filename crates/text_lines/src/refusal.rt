@@ -1,5 +1,5 @@
 //! Why a function's text is refused.
-ghost use Rattle.std.specs.Prelude.{◌≡◌};
+ghost use Rattle.std.specs.Prelude.{◌≡◌, ◌-◌, ◌^◌, min};
 ghost use Rattle.text_lines.specs.declared.refusal.ReadKind.TheVariants.{Memory};
 
 use align_base::Memory;
@@ -79,4 +79,11 @@ impl From<Memory> for ReadRefusal {
             kind: ReadKind::Memory,
         }
     }
+}
+
+/// The number in 32 bits; numbers above 2^32 - 1 are given as that.
+pub fn saturated(number: usize) -> u32
+    ensures { result ≡ min number (2 ^ 32 - 1) }
+{
+    u32::try_from(number).unwrap_or(u32::MAX)
 }

@@ -59,7 +59,7 @@ pub fn is_name(text: &[u8]) -> bool
 
 /// The text from its first byte on that is no blank.
 #[tactic(auto, unfolding(crate::specs::Words::behind_prefix))]
-pub(crate) fn behind_blanks(text: &[u8]) -> &[u8]
+pub fn behind_blanks(text: &[u8]) -> &[u8]
     ensures { result.now ≡ behind_prefix is_blank text.now }
 {
     let mut rest = text;

@@ -1,0 +1,16 @@
+-- The first label of each name in a body, as the code keeps it.
+use Rattle.std.specs.Prelude.{ℕ, ◌+◌, ◌-◌, ◌^◌, min, nat_lt, if◌then◌else◌, List, [], ◌∷◌, Option, Some, None}
+use Rattle.text_lines.specs.Lines.{Item}
+use Rattle.function_body.specs.Body.{is_label}
+use Rattle.function_body.specs.Reading.{count_of}
+use Rattle.function_body.specs.declared.labels.First.{First}
+
+-- the first label of a name among items, which stand from place k on behind n instructions
+unfoldable pub first_from : ℕ → ℕ → List Item → List ℕ → Option First
+first_from k n [] name = None
+first_from k n (i ∷ is) name = if is_label name i then Some (record { item = k; insns = n }) else first_from (k + 1) (n + count_of i) is name
+
+-- where a label leads, if instructions stand behind it: n are in the body
+abbrev pub target_by : ℕ → Option First → Option ℕ
+target_by n None = None
+target_by n (Some first) = if nat_lt first.insns n then Some (min first.insns (2 ^ 32 - 1)) else None
