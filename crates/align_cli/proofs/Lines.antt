@@ -2,8 +2,7 @@
 use Rattle.std.proofs.Common.{◌≡◌, ℕ, ◌+◌, ◌<◌, ◌≤◌, List, [], ◌∷◌, ◌++◌, length, drop, get_or, Some, sym, ◌∙◌, ap, slice_get, unwrap_or, add-one, append_assoc}
 use Rattle.std.proofs.Math.Seq.{drop-cons}
 use Rattle.std.proofs.lemmas.List.{drop_all, append-nil}
-use Rattle.att_reader.specs.PlainText.{register_names}
-use Rattle.align_cli.specs.Report.{register_line, register_lines}
+use Rattle.align_cli.specs.Report.{register_line, register_lines, register_names}
 
 lines-first : (n v : ℕ) (vs name : List ℕ) → slice_get register_names n ≡ Some name → register_lines n (v ∷ vs) ≡ register_line name v ++ register_lines (n + 1) vs
 unfolding register_lines

@@ -12,20 +12,21 @@ use Rattle.insn_table.specs.declared.insn.Function.{Function}
 use Rattle.runs.specs.Run.{Run}
 use Rattle.runs.specs.declared.ends.RunEnd.{RunEnd}
 use Rattle.machine.specs.Machine.{Machine, rax}
-use Rattle.att_reader.specs.PlainText.{IsPlainText}
-use Rattle.att_reader.specs.Refusals.{IsRefused}
-use Rattle.att_reader.proofs.PlainTexts.{plain-once}
-use Rattle.att_reader.proofs.WholeTexts.{refused-differs}
+use Rattle.insn_table.specs.Plain.{IsPlain}
+use Rattle.att_reader.specs.FunctionText.{IsFunctionText}
+use Rattle.att_reader.proofs.TextLaws as laws
 use Rattle.align_cli.specs.Command.{Command, DecidePlain, FunctionArguments}
-use Rattle.align_cli.specs.Commands.{AreFunctions, HoldsFunction, Owes, Says, TellsFunctions, finals}
+use Rattle.align_cli.specs.Commands.{Accepts, AreFunctions, HoldsFunction, OfPlain, Owes, RefusesContents, RefusesEither, Rejects, Says, TellsFunctions, finals}
 use Rattle.align_cli.specs.Files.{Content, FunctionText, File, IsBadFile, IsGoodFile, IsText, ReadsFile, RefusesFile, RefusesText, files_of, function_file, limit_of}
+use Rattle.align_cli.specs.Plainness.{IsFirstUnplain}
 use Rattle.align_cli.specs.Shown.{start_at}
 use Rattle.align_cli.specs.Statuses.{IsOneOf, interruptions}
 use Rattle.align_cli.specs.Verdict.{ReportsDifferent, ReportsEquivalent, ReturnApart, ReturnTheSame}
+use Rattle.align_cli.proofs.PlainEnds.{plain-unplain}
 
 -- a text is not both what it has to be and refused
 text-differs : (content : Content) (text report : List ℕ) → IsText content text → RefusesText content text report → ⊥
-text-differs (FunctionText side name) text report is refused = refused-differs text name refused.0 is.0 refused.1 is.1
+text-differs (FunctionText side name) text report is refused = laws.text-differs text name is.0 refused.0 is.1 refused.1
 
 -- what a shelf that tells holds
 held_is : (told : Option Holding) (held : Holding) (file text : List ℕ) → told ≡ Some held → Holds told file text → held file ≡ Some text
@@ -58,7 +59,7 @@ same_held : (told : Option Holding) (held : Holding) (arguments : FunctionArgume
     → HoldsFunction told arguments f → HoldsFunction told arguments g → f ≡ g
 same_held told held arguments f g tells h k =
     let e = same_text told held arguments.file k.text h.text tells (held_is told held arguments.file k.text tells k.held) h.held in
-    plain-once k.text arguments.name f (let P : List ℕ → Type 0 = λ t. IsPlainText t arguments.name f in subst P e h.reads) g k.reads
+    laws.text-once k.text arguments.name f g (let P : List ℕ → Type 0 = λ t. IsFunctionText t arguments.name f in subst P e h.reads) k.reads
 
 -- two claims on the files are on the same functions
 same_functions : (C D : List Insn → List Insn → Type 0) (told : Option Holding) (held : Holding) (left right : FunctionArguments) → told ≡ Some held
@@ -87,7 +88,7 @@ equivalent_same left right report e a =
     a.differ (e.equivalent.same a.start a.is_start a.left_steps a.right_steps a.left_number a.right_number a.left_returns a.right_returns)
 
 -- files that hold functions are good
-functions_good : (C : List Insn → List Insn → Type 0) (told : Option Holding) (left right : FunctionArguments) → TellsFunctions C told left right
+pub functions_good : (C : List Insn → List Insn → Type 0) (told : Option Holding) (left right : FunctionArguments) → TellsFunctions C told left right
     → AllByRecursion (IsGoodFile told) (function_file Left left ∷ function_file Right right ∷ [])
 functions_good C told left right owes = (good Left left owes.2.f owes.2.left_holds, (good Right right owes.2.g owes.2.right_holds, tt))
   where
@@ -101,25 +102,66 @@ functions_good C told left right owes = (good Left left owes.2.f owes.2.left_hol
       is_text = (f, h.reads);
     }
 
+-- both functions of a claim on plain functions are plain
+plain_both : (C : List Insn → List Insn → Type 0) (f g : List Insn) → OfPlain C f g → IsPlain f × IsPlain g
+plain_both C f g h = (h.0, h.1)
+
+not_plain : (f g : List Insn) → (IsPlain f → ⊥) ⊎ (IsPlain g → ⊥) → IsPlain f × IsPlain g → ⊥
+not_plain f g (inl left) both = left both.0
+not_plain f g (inr right) both = right both.1
+
+plain_functions : (C : List Insn → List Insn → Type 0) (told : Option Holding) (left right : FunctionArguments) → TellsFunctions (OfPlain C) told left right
+    → TellsFunctions (λ f g. IsPlain f × IsPlain g) told left right
+plain_functions C told left right owes =
+    let a = owes.2 in
+    (owes.0, owes.1, record { f = a.f; g = a.g; left_holds = a.left_holds; right_holds = a.right_holds; claim = (a.claim.0, a.claim.1) })
+
+-- plain functions were not refused
+plain_differ : (f g : List Insn) (report : List ℕ) → IsPlain f × IsPlain g → RefusesEither report f g → ⊥
+plain_differ f g report plain (inl left) = plain-unplain f left.0 plain.0 left.1
+plain_differ f g report plain (inr right) = plain-unplain g right.1.0 plain.1 right.1.1
+
 -- files that call for a status are not reported with another one
 pub owes-differs : (command : Command) (s t : Status) (told : Option Holding) (report : List ℕ) → Owes command s told → Says command t told report → t ≡ s
 owes-differs (DecidePlain left right) status.Good status.Good told report owes says = refl
 owes-differs (DecidePlain left right) status.Good status.Negative told report owes says =
     absurd (shown_differs owes.2.f.insns owes.2.g.insns report
-    (same_functions (λ f g. ReportsDifferent f g report) ReturnTheSame told owes.0 left right owes.1 says owes.2) owes.2.claim)
+    (same_functions (OfPlain (λ f g. ReportsDifferent f g report)) (OfPlain ReturnTheSame) told owes.0 left right owes.1 says owes.2).2 owes.2.claim.2)
 owes-differs (DecidePlain left right) status.Negative status.Negative told report owes says = refl
 owes-differs (DecidePlain left right) status.Negative status.Good told report owes says =
     absurd (equivalent_same owes.2.f.insns owes.2.g.insns report
-    (same_functions (λ f g. ReportsEquivalent f g report) ReturnApart told owes.0 left right owes.1 says owes.2) owes.2.claim)
+    (same_functions (OfPlain (λ f g. ReportsEquivalent f g report)) (OfPlain ReturnApart) told owes.0 left right owes.1 says owes.2).2 owes.2.claim.2)
 owes-differs (DecidePlain left right) status.Good _ told report owes says = absurd says
 owes-differs (DecidePlain left right) status.Negative _ told report owes says = absurd says
 owes-differs (DecidePlain left right) _ t told report owes says = absurd owes
 
--- files that call for a status were all good
-pub owes-good : (command : Command) (s : Status) (told : Option Holding) → Owes command s told → AllByRecursion (IsGoodFile told) (files_of command)
-owes-good (DecidePlain left right) status.Good told owes = functions_good ReturnTheSame told left right owes
-owes-good (DecidePlain left right) status.Negative told owes = functions_good ReturnApart told left right owes
-owes-good (DecidePlain left right) _ told owes = absurd owes
+-- files that call for a status are accepted
+pub owes-accepts : (command : Command) (s : Status) (told : Option Holding) → Owes command s told → Accepts command told
+owes-accepts (DecidePlain left right) status.Good told owes = plain_functions ReturnTheSame told left right owes
+owes-accepts (DecidePlain left right) status.Negative told owes = plain_functions ReturnApart told left right owes
+owes-accepts (DecidePlain left right) _ told owes = absurd owes
+
+-- files that are accepted are good
+pub accepts-good : (command : Command) (told : Option Holding) → Accepts command told → AllByRecursion (IsGoodFile told) (files_of command)
+accepts-good (DecidePlain left right) told accepts = functions_good (λ f g. IsPlain f × IsPlain g) told left right accepts
+
+-- contents that are accepted were not refused
+pub accepts-differs : (command : Command) (told : Option Holding) (report : List ℕ) → Accepts command told → RefusesContents command told report → ⊥
+accepts-differs (DecidePlain left right) told report accepts refuses =
+    plain_differ accepts.2.f.insns accepts.2.g.insns report accepts.2.claim
+    (same_functions (RefusesEither report) (λ f g. IsPlain f × IsPlain g) told accepts.0 left right accepts.1 refuses accepts.2)
+
+-- contents that are rejected are in no report of a command that was carried out
+pub rejects-differs : (command : Command) (s : Status) (told : Option Holding) (report : List ℕ) → Rejects command told → Says command s told report → ⊥
+rejects-differs (DecidePlain left right) status.Good told report rejects says =
+    not_plain rejects.2.f.insns rejects.2.g.insns rejects.2.claim
+    (plain_both (λ f g. ReportsEquivalent f g report) rejects.2.f.insns rejects.2.g.insns
+    (same_functions (OfPlain (λ f g. ReportsEquivalent f g report)) (λ f g. (IsPlain f → ⊥) ⊎ (IsPlain g → ⊥)) told rejects.0 left right rejects.1 says rejects.2))
+rejects-differs (DecidePlain left right) status.Negative told report rejects says =
+    not_plain rejects.2.f.insns rejects.2.g.insns rejects.2.claim
+    (plain_both (λ f g. ReportsDifferent f g report) rejects.2.f.insns rejects.2.g.insns
+    (same_functions (OfPlain (λ f g. ReportsDifferent f g report)) (λ f g. (IsPlain f → ⊥) ⊎ (IsPlain g → ⊥)) told rejects.0 left right rejects.1 says rejects.2))
+rejects-differs (DecidePlain left right) _ told report rejects says = absurd says
 
 -- a report of a command that was carried out has one of its statuses
 pub says-final : (command : Command) (s : Status) (told : Option Holding) (report : List ℕ) → Says command s told report → IsOneOf (finals command ++ interruptions) s

@@ -5,11 +5,11 @@ use Rattle.std.specs.List.{AllByRecursion}
 use Rattle.std.proofs.lemmas.Bool.{cases_eq}
 use Rattle.std.proofs.lemmas.Option.{slice_get_within, slice_get-get_or}
 use Rattle.align_base.specs.declared.op.Op.{Op}
-use Rattle.align_base.specs.declared.op.Op.TheVariants.{Mov, Add, Sub}
+use Rattle.align_base.specs.declared.op.Op.TheVariants.{Mov, Add, Sub, Ret}
 use Rattle.insn_table.specs.Closed.{IsClosed, IsLeaving}
 use Rattle.insn_table.specs.Plain.{IsMoveOp, IsPlain, IsPlainMove, IsReturn}
 use Rattle.insn_table.specs.declared.insn.Insn.{Insn}
-use Rattle.align_cli.specs.Plainness.{IsPlainAt}
+use Rattle.align_cli.specs.Plainness.{IsFirstUnplain, IsPlainAt}
 
 -- the first n instructions are plain where they stand, and the flag tells whether one of them returns
 pub record AreSoFar (insns : List Insn) (n : ℕ) (returned : Bool) : Type 0 where
@@ -81,3 +81,29 @@ closed-plain insns closed each =
     let e : k ≡ length insns - 1 = omega arith in
     let same : at.insn ≡ i = (let a = at.there in let b : slice_get insns (length insns - 1) ≡ Some i = subst (λ j. slice_get insns j ≡ Some i) e is in cc) in
     subst IsReturn same last_returns)
+
+op_differs : (op : Op) → IsMoveOp op → op ≡ Ret → ⊥
+op_differs Mov h e = cc
+op_differs Add h e = cc
+op_differs Sub h e = cc
+op_differs _ h e = absurd h
+
+-- each instruction of moves and a return is plain where it stands
+plain-places : (moves : List Insn) (last : Insn) → AllByRecursion IsPlainMove moves → IsReturn last → (k : ℕ) → k < length (moves ++ last ∷ []) → IsPlainAt (moves ++ last ∷ []) k
+plain-places [] last each returns zero h = record { insn = last; there = refl; plain = inr returns; unreturned = λ k i lt. absurd (omega arith) }
+plain-places [] last each returns (suc k) h = absurd (omega arith)
+plain-places (x ∷ xs) last each returns zero h = record { insn = x; there = refl; plain = inl each.0; unreturned = λ k i lt. absurd (omega arith) }
+plain-places (x ∷ xs) last each returns (suc k) h =
+    let rest = plain-places xs last each.1 returns k (omega arith) in
+    record { insn = rest.insn; there = rest.there; plain = rest.plain; unreturned = behind rest }
+  where
+    behind : IsPlainAt (xs ++ last ∷ []) k → (j : ℕ) (i : Insn) → j < suc k → slice_get (x ∷ (xs ++ last ∷ [])) j ≡ Some i → IsReturn i → ⊥
+    behind rest zero i lt is ret = let same : x ≡ i = cc in op_differs x.op each.0.op (let r = subst IsReturn (sym same) ret in r.op)
+    behind rest (suc j) i lt is ret = rest.unreturned j i (omega arith) is ret
+
+-- a plain function has no first instruction that is not plain
+pub plain-unplain : (insns : List Insn) (line : ℕ) → IsPlain insns → IsFirstUnplain insns line → ⊥
+plain-unplain insns line p first =
+    let at : IsPlainAt (p.moves ++ p.last ∷ []) first.place =
+    plain-places p.moves p.last p.each p.returns first.place (slice_get_within (p.moves ++ p.last ∷ []) first.place first.insn (subst (λ l. slice_get l first.place ≡ Some first.insn) p.whole first.there)) in
+    first.unplain (subst (λ l. IsPlainAt l first.place) (sym p.whole) at)

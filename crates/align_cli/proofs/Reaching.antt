@@ -12,10 +12,10 @@ use Rattle.align_base.specs.declared.status.Side.TheVariants.{Left, Right}
 use Rattle.align_base.specs.declared.status.Status.{Status}
 use Rattle.align_base.specs.declared.status.Status.TheVariants as status
 use Rattle.insn_table.specs.declared.insn.Function.{Function}
-use Rattle.align_cli.specs.Answers.{FailsAtFile, Finishes, Refuses, TellsOf}
+use Rattle.align_cli.specs.Answers.{FailsAtFile, Finishes, Refuses, RefusesRead, TellsOf}
 use Rattle.align_cli.specs.Command.{Command, DecidePlain, FunctionArguments}
 use Rattle.align_cli.specs.Commands.{HoldsFunction}
-use Rattle.align_cli.specs.Files.{IsReached, ReadsFile, RefusesFile, function_file}
+use Rattle.align_cli.specs.Files.{IsReached, ReadsFile, RefusesFile, files_of, function_file}
 use Rattle.align_cli.specs.Inside.{Compares, Interrupts, InterruptsTake}
 use Rattle.align_cli.specs.Report.{large_refusal}
 use Rattle.align_cli.specs.declared.answer.Interruption.{Interruption}
@@ -104,15 +104,23 @@ module _ (before middle after : ShelfAccount) (left right : FunctionArguments) (
       right_holds : HoldsFunction before.holding right g
       right_holds = let P : Option Holding → Type 0 = λ t. HoldsFunction t right g in subst P same holds
 
+      read : AllByRecursion (ReadsFile before.holding) (files_of (DecidePlain left right))
+      read = (reads_function before.holding Left left f held, (reads_function before.holding Right right g right_holds, tt))
+
       both : (s : Status) → Compares s f.insns g.insns report → TellsOf (DecidePlain left right) s before after report
       both status.Good says = record {
-        read = (reads_function before.holding Left left f held, (reads_function before.holding Right right g right_holds, tt));
+        read = read;
         taken = counted_twice before.calls middle.calls after.calls once twice;
         says = record { f = f; g = g; left_holds = held; right_holds = right_holds; claim = says };
       }
       both status.Negative says = record {
-        read = (reads_function before.holding Left left f held, (reads_function before.holding Right right g right_holds, tt));
+        read = read;
         taken = counted_twice before.calls middle.calls after.calls once twice;
         says = record { f = f; g = g; left_holds = held; right_holds = right_holds; claim = says };
       }
+      both status.Refused says = inr (record {
+        read = read;
+        taken = counted_twice before.calls middle.calls after.calls once twice;
+        refused = record { f = f; g = g; left_holds = held; right_holds = right_holds; claim = says };
+      })
       both _ says = absurd says

@@ -18,11 +18,12 @@ leaves : (f : List Insn) (p : IsPlain f) (a : Sum) (regs : List ℕ) → LeavesI
 leaves f p a regs h are = rw (plain_moves f p) (sym (h regs are))
 
 pub sums_agree : (f g : List Insn) (a b : Sum) (bound : ℕ) (report : List ℕ) → IsPlain f → IsPlain g → LeavesInRax f a → LeavesInRax g b
-    → ((regs : List ℕ) → sum_value a regs ≡ sum_value b regs) → bound ≡ 2 * max (length f) (length g) → report ≡ equivalent_report bound
+    → ((regs : List ℕ) → sum_value a regs ≡ sum_value b regs) → bound ≡ 2 * max (length f) (length g) → length f ≤ 4096 → length g ≤ 4096 → report ≡ equivalent_report bound
     → ReportsEquivalent f g report
-sums_agree f g a b bound report p q left right same is told = record {
+sums_agree f g a b bound report p q left right same is few few_too told = record {
   bound = bound;
   bound_is = is;
+  small = omega arith;
   equivalent = rw is (plain-equivalent f g [] [] p q (λ s start.
       let are = start.start.valid.regs in leaves f p a s.regs left are ∙ same s.regs ∙ sym (leaves g q b s.regs right are)));
   left_never_faults = plain_never_faults f [] p;

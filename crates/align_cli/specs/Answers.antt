@@ -1,6 +1,6 @@
 -- What is true where the program ends with each status, of every command. A command adds its own definitions to Command,
 -- Files and Commands, and none here.
-use Rattle.std.specs.Prelude.{◌≡◌, ℕ, ◌≤◌, List, length}
+use Rattle.std.specs.Prelude.{◌≡◌, ◌⊎◌, ℕ, ◌≤◌, List, length}
 use Rattle.std.specs.List.{AllByRecursion}
 use Rattle.align_base.specs.Causes.{count_after}
 use Rattle.align_base.specs.Shelf.{CallFailed, ShelfAccount}
@@ -9,7 +9,7 @@ use Rattle.align_base.specs.declared.shelf.Call.TheVariants.{Take}
 use Rattle.align_base.specs.declared.status.Status.{Status}
 use Rattle.align_base.specs.declared.status.Status.TheVariants as status
 use Rattle.align_cli.specs.Command.{Command, IsCommand, IsUsageError, OfCommand}
-use Rattle.align_cli.specs.Commands.{Says}
+use Rattle.align_cli.specs.Commands.{RefusesContents, Says}
 use Rattle.align_cli.specs.Files.{File, IsReached, ReadsFile, RefusesFile, files_of}
 use Rattle.align_cli.specs.Report.{usage_text}
 
@@ -27,6 +27,16 @@ pub record Refuses (command : Command) (before after : ShelfAccount) (report : L
   pub taken : after.calls ≡ count_after before.calls number
   pub refused : RefusesFile before.holding after.seen file report
 
+-- All files were read, and what they hold was refused.
+pub record RefusesRead (command : Command) (before after : ShelfAccount) (report : List ℕ) : Type 0 where
+  pub read : AllByRecursion (ReadsFile before.holding) (files_of command)
+  pub taken : after.calls ≡ count_after before.calls (length (files_of command))
+  pub refused : RefusesContents command before.holding report
+
+-- a file was refused, or what all of them hold
+abbrev pub RefusesCommand : Command → ShelfAccount → ShelfAccount → List ℕ → Type 0
+RefusesCommand command before after report = Refuses command before after report ⊎ RefusesRead command before after report
+
 -- The take of a file failed, after those before it were read, and it is the last call that failed.
 pub record FailsAtFile (command : Command) (before after : ShelfAccount) : Type 0 where
   pub file : File
@@ -43,7 +53,7 @@ pub record TellsUsage (arguments : List (List ℕ)) (before after : ShelfAccount
 
 -- what a report tells of a command where it is given with this status
 abbrev pub TellsOf : Command → Status → ShelfAccount → ShelfAccount → List ℕ → Type 0
-TellsOf command status.Refused before after report = Refuses command before after report
+TellsOf command status.Refused before after report = RefusesCommand command before after report
 TellsOf command status.Usage before after report = ⊥
 TellsOf command status.ShelfFault before after report = ⊥
 TellsOf command status.SinkFault before after report = ⊥

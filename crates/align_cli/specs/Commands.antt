@@ -1,12 +1,17 @@
 -- What each command tells, by the status that it ends with.
-use Rattle.std.specs.Prelude.{◌≡◌, ℕ, ◌≤◌, List, [], ◌∷◌, length, Option, Some}
+use Rattle.std.specs.Prelude.{◌≡◌, ◌⊎◌, ℕ, ◌≤◌, List, [], ◌∷◌, length, Option, Some}
 use Rattle.align_base.specs.Shelf.{Holding, Holds}
+use Rattle.align_base.specs.declared.status.Side.{Side}
+use Rattle.align_base.specs.declared.status.Side.TheVariants.{Left, Right}
 use Rattle.align_base.specs.declared.status.Status.{Status}
 use Rattle.align_base.specs.declared.status.Status.TheVariants as status
 use Rattle.insn_table.specs.declared.insn.Insn.{Insn}
 use Rattle.insn_table.specs.declared.insn.Function.{Function}
-use Rattle.att_reader.specs.PlainText.{IsPlainText}
+use Rattle.insn_table.specs.Plain.{IsPlain}
+use Rattle.att_reader.specs.FunctionText.{IsFunctionText}
 use Rattle.align_cli.specs.Command.{Command, DecidePlain, FunctionArguments}
+use Rattle.align_cli.specs.Plainness.{IsFirstUnplain}
+use Rattle.align_cli.specs.Report.{unplain_refusal}
 use Rattle.align_cli.specs.Verdict.{ReportsDifferent, ReportsEquivalent, ReturnApart, ReturnTheSame}
 
 -- the file holds a text within the limit that is this function
@@ -14,7 +19,7 @@ pub record HoldsFunction (told : Option Holding) (arguments : FunctionArguments)
   pub text : List ℕ
   pub held : Holds told arguments.file text
   pub small : length text ≤ 16777216
-  pub reads : IsPlainText text arguments.name f
+  pub reads : IsFunctionText text arguments.name f
 
 -- the files hold functions of which this is so
 pub record AreFunctions (Claim : List Insn → List Insn → Type 0) (told : Option Holding) (left right : FunctionArguments) : Type 0 where
@@ -24,22 +29,46 @@ pub record AreFunctions (Claim : List Insn → List Insn → Type 0) (told : Opt
   pub right_holds : HoldsFunction told right g
   pub claim : Claim f.insns g.insns
 
+-- both functions are plain, and this is so of them
+abbrev pub OfPlain : (List Insn → List Insn → Type 0) → List Insn → List Insn → Type 0
+OfPlain Claim f g = IsPlain f × IsPlain g × Claim f g
+
 -- what the report says of the files where the command ends with this status
 abbrev pub Says : Command → Status → Option Holding → List ℕ → Type 0
-Says (DecidePlain left right) status.Good told report = AreFunctions (λ f g. ReportsEquivalent f g report) told left right
-Says (DecidePlain left right) status.Negative told report = AreFunctions (λ f g. ReportsDifferent f g report) told left right
+Says (DecidePlain left right) status.Good told report = AreFunctions (OfPlain (λ f g. ReportsEquivalent f g report)) told left right
+Says (DecidePlain left right) status.Negative told report = AreFunctions (OfPlain (λ f g. ReportsDifferent f g report)) told left right
 Says (DecidePlain left right) _ told report = ⊥
 
 -- the statuses of a command that was carried out
 abbrev pub finals : Command → List Status
 finals (DecidePlain left right) = status.Good ∷ status.Negative ∷ []
 
+-- the function is not plain, and the report refuses it at its first instruction that is not
+abbrev pub RefusesUnplain : Side → List Insn → List ℕ → Type 0
+RefusesUnplain side insns report = (line : ℕ) × IsFirstUnplain insns line × (report ≡ unplain_refusal side line)
+
+-- the left function is not plain, or the left one is plain and the right one is not
+abbrev pub RefusesEither : List ℕ → List Insn → List Insn → Type 0
+RefusesEither report f g = RefusesUnplain Left f report ⊎ (IsPlain f × RefusesUnplain Right g report)
+
+-- the report refuses what the files hold, once all were read
+abbrev pub RefusesContents : Command → Option Holding → List ℕ → Type 0
+RefusesContents (DecidePlain left right) told report = AreFunctions (RefusesEither report) told left right
+
 -- the shelf tells, and the files hold functions of which this is so
 abbrev pub TellsFunctions : (List Insn → List Insn → Type 0) → Option Holding → FunctionArguments → FunctionArguments → Type 0
 TellsFunctions Claim told left right = (held : Holding) × (told ≡ Some held) × AreFunctions Claim told left right
 
+-- the files are such that the command can be carried out
+abbrev pub Accepts : Command → Option Holding → Type 0
+Accepts (DecidePlain left right) told = TellsFunctions (λ f g. IsPlain f × IsPlain g) told left right
+
+-- the files are good, and the command cannot be carried out with what they hold
+abbrev pub Rejects : Command → Option Holding → Type 0
+Rejects (DecidePlain left right) told = TellsFunctions (λ f g. (IsPlain f → ⊥) ⊎ (IsPlain g → ⊥)) told left right
+
 -- the files are such that the command has to end with this status
 abbrev pub Owes : Command → Status → Option Holding → Type 0
-Owes (DecidePlain left right) status.Good told = TellsFunctions ReturnTheSame told left right
-Owes (DecidePlain left right) status.Negative told = TellsFunctions ReturnApart told left right
+Owes (DecidePlain left right) status.Good told = TellsFunctions (OfPlain ReturnTheSame) told left right
+Owes (DecidePlain left right) status.Negative told = TellsFunctions (OfPlain ReturnApart) told left right
 Owes (DecidePlain left right) _ told = ⊥

@@ -5,9 +5,8 @@ use Rattle.align_base.specs.Shelf.{Holding, Holds, HoldsMore}
 use Rattle.align_base.specs.declared.status.Side.{Side}
 use Rattle.align_base.specs.declared.status.Side.TheVariants.{Left, Right}
 use Rattle.insn_table.specs.declared.insn.Function.{Function}
-use Rattle.att_reader.specs.declared.refusal.ReadRefusal.{ReadRefusal}
-use Rattle.att_reader.specs.PlainText.{IsPlainText}
-use Rattle.att_reader.specs.Refusals.{IsRefused}
+use Rattle.text_lines.specs.declared.refusal.ReadRefusal.{ReadRefusal}
+use Rattle.att_reader.specs.FunctionText.{IsFunctionText, IsRefused}
 use Rattle.align_cli.specs.Command.{Command, DecidePlain, FunctionArguments}
 use Rattle.align_cli.specs.Report.{large_refusal, line_refusal}
 
@@ -34,7 +33,7 @@ limit_of (FunctionText side name) = 16777216
 
 -- the text is what it has to be
 abbrev pub IsText : Content → List ℕ → Type 0
-IsText (FunctionText side name) text = (f : Function) × IsPlainText text name f
+IsText (FunctionText side name) text = (f : Function) × IsFunctionText text name f
 
 -- the text isn't what it has to be, and this report refuses it
 abbrev pub RefusesText : Content → List ℕ → List ℕ → Type 0

@@ -3,9 +3,14 @@ use Rattle.std.specs.Prelude.{ℕ, ◌+◌, ◌==◌, List, [], ◌∷◌, ◌++
 use Rattle.std.specs.Fmt.{digits}
 use Rattle.align_base.specs.declared.status.Side.{Side}
 use Rattle.align_base.specs.declared.status.Side.TheVariants.{Left, Right}
-use Rattle.att_reader.specs.declared.refusal.ReadKind.{ReadKind}
-use Rattle.att_reader.specs.declared.refusal.ReadKind.TheVariants.{Memory, NoFunction, UnknownInstruction, FallsOff}
-use Rattle.att_reader.specs.PlainText.{register_names}
+use Rattle.text_lines.specs.declared.refusal.ReadKind.{ReadKind}
+use Rattle.text_lines.specs.declared.refusal.ReadKind.TheVariants as kind
+
+-- the general registers of 64 bits, by number
+abbrev pub register_names : List (List ℕ)
+register_names =
+    codes "rax" ∷ codes "rcx" ∷ codes "rdx" ∷ codes "rbx" ∷ codes "rsp" ∷ codes "rbp" ∷ codes "rsi" ∷ codes "rdi"
+    ∷ codes "r8" ∷ codes "r9" ∷ codes "r10" ∷ codes "r11" ∷ codes "r12" ∷ codes "r13" ∷ codes "r14" ∷ codes "r15" ∷ []
 
 -- a value: `0x` and lower-case hexadecimal digits with no leading zeros
 unfoldable pub value_text : ℕ → List ℕ
@@ -45,15 +50,32 @@ different_report left_steps right_steps left_value right_value regs =
 
 -- what refusals call a fault of a text
 abbrev pub kind_name : ReadKind → List ℕ
-kind_name Memory = codes "memory"
-kind_name NoFunction = codes "no-function"
-kind_name UnknownInstruction = codes "unknown-instruction"
-kind_name FallsOff = codes "falls-off"
+kind_name kind.Memory = codes "memory"
+kind_name kind.NotUtf8 = codes "not-utf8"
+kind_name kind.LineLong = codes "line-long"
+kind_name kind.NoFunction = codes "no-function"
+kind_name kind.TwiceLabel = codes "twice-label"
+kind_name kind.DataInBody = codes "data-in-body"
+kind_name kind.UnknownInstruction = codes "unknown-instruction"
+kind_name kind.PoolRefused = codes "pool-refused"
+kind_name kind.BadOperand = codes "bad-operand"
+kind_name kind.BadNumber = codes "bad-number"
+kind_name kind.UnknownLabel = codes "unknown-label"
+kind_name kind.TooManyInsns = codes "too-many-insns"
+kind_name kind.FallsOff = codes "falls-off"
+
+-- a refusal at a line, by what it is called
+unfoldable pub named_refusal : Side → ℕ → List ℕ → List ℕ
+named_refusal side line name =
+    codes "refused " ++ side_name side ++ codes " line " ++ decimal line ++ codes " " ++ name ++ codes "\n"
+
+-- the refusal of a function that is not plain, at a line
+abbrev pub unplain_refusal : Side → ℕ → List ℕ
+unplain_refusal side line = named_refusal side line (codes "not-plain")
 
 -- the refusal of a text at a line
-unfoldable pub line_refusal : Side → ℕ → ReadKind → List ℕ
-line_refusal side line kind =
-    codes "refused " ++ side_name side ++ codes " line " ++ decimal line ++ codes " " ++ kind_name kind ++ codes "\n"
+abbrev pub line_refusal : Side → ℕ → ReadKind → List ℕ
+line_refusal side line kind = named_refusal side line (kind_name kind)
 
 -- the refusal of a file of which so many bytes were read
 unfoldable pub large_refusal : Side → ℕ → List ℕ

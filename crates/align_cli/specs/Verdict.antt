@@ -1,5 +1,5 @@
 -- What the reports of `decide` say of two functions and of every start state.
-use Rattle.std.specs.Prelude.{◌≡◌, ◌≢◌, ◌⊎◌, ℕ, ◌*◌, ◌<◌, max, List, [], length}
+use Rattle.std.specs.Prelude.{◌≡◌, ◌≢◌, ◌⊎◌, ℕ, ◌*◌, ◌<◌, ◌≤◌, max, List, [], length}
 use Rattle.insn_table.specs.declared.insn.Insn.{Insn}
 use Rattle.runs.specs.Equivalent.{AreEquivalent}
 use Rattle.runs.specs.Run.{Step, end_of, run_of}
@@ -22,6 +22,7 @@ NeverFaults insns = (s : Machine) → IsPlainStart s → (n i : ℕ) → end_of 
 pub record ReportsEquivalent (left right : List Insn) (report : List ℕ) : Type 0 where
   pub bound : ℕ
   pub bound_is : bound ≡ 2 * max (length left) (length right)
+  pub small : bound ≤ 32768
   pub equivalent : AreEquivalent IsPlainStart SamePlainEnd bound (plain_step left) (plain_step right)
   pub left_never_faults : NeverFaults left
   pub right_never_faults : NeverFaults right

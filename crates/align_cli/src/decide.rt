@@ -1,9 +1,11 @@
 //! The command `decide` in its short form: two plain functions, compared by the sums that they leave
 //! in `%rax`.
-ghost use Rattle.std.specs.Prelude.{◌≡◌, ◌<◌, ◌^◌, length, string_bytes, IfErr, IfOk, OnOk};
+ghost use Rattle.std.specs.Prelude.{◌≡◌, ◌≤◌, length, string_bytes, IfErr, IfOk, MatchOption, OnOk};
 ghost use Rattle.align_base.specs.Shelf.{NoneFailed};
+ghost use Rattle.insn_table.specs.Closed.{IsClosed};
 ghost use Rattle.insn_table.specs.Plain.{IsPlain};
 ghost use Rattle.align_cli.specs.Answers.{TakesAtMost, TellsOf};
+ghost use Rattle.align_cli.specs.Commands.{RefusesEither};
 ghost use Rattle.align_cli.specs.Files.{files_of};
 ghost use Rattle.align_cli.specs.Inside.{Compares, Interrupts};
 ghost use Rattle.align_cli.specs.View.{decide_view};
@@ -11,6 +13,7 @@ ghost use Rattle.align_cli.specs.View.{decide_view};
 use crate::answer::{Answer, Interruption};
 use crate::arguments::FunctionArguments;
 use crate::functions::{Taken, function_in};
+use crate::plainness::first_unplain;
 use crate::report;
 use crate::report::Ending;
 use crate::sums::{rax_sum, telling_registers};
@@ -21,9 +24,9 @@ use std::alloc::{AllocError, Global};
 /// Compares two plain functions.
 fn compared(alloc: Global, left: &Function, right: &Function) -> Result<Answer, AllocError>
     requires left_plain { IsPlain left.now.insns }
-    requires left_few { length left.now.insns < 2 ^ 32 }
+    requires left_few { length left.now.insns ≤ 4096 }
     requires right_plain { IsPlain right.now.insns }
-    requires right_few { length right.now.insns < 2 ^ 32 }
+    requires right_few { length right.now.insns ≤ 4096 }
     ensures { IfOk result (λ answer. Compares answer.status left.now.insns right.now.insns (string_bytes answer.text)) }
 {
     let left_sum = rax_sum(left.insns.as_slice());
@@ -49,6 +52,43 @@ fn compared(alloc: Global, left: &Function, right: &Function) -> Result<Answer, 
                 text: report::different(alloc, left_end, right_end, &regs)?,
             })
         }
+    }
+}
+
+/// The refusal of the first function that is not plain, the left one before the right one.
+fn refusal_of_unplain(
+    alloc: Global,
+    left: &Function,
+    right: &Function,
+) -> Result<Option<String>, AllocError>
+    requires left_closed { IsClosed left.now.insns }
+    requires right_closed { IsClosed right.now.insns }
+    ensures { IfOk result (λ refusal. MatchOption refusal (IsPlain left.now.insns × IsPlain right.now.insns)
+        (λ text. RefusesEither (string_bytes text) left.now.insns right.now.insns)) }
+{
+    if let Some(line) = first_unplain(left.insns.as_slice()) {
+        return Ok(Some(report::refused_unplain(alloc, Side::Left, line)?));
+    }
+    if let Some(line) = first_unplain(right.insns.as_slice()) {
+        return Ok(Some(report::refused_unplain(alloc, Side::Right, line)?));
+    }
+    Ok(None)
+}
+
+/// Judges two functions that were read: refuses the first that is not plain, and compares plain ones.
+fn judged(alloc: Global, left: &Function, right: &Function) -> Result<Answer, AllocError>
+    requires left_closed { IsClosed left.now.insns }
+    requires left_few { length left.now.insns ≤ 4096 }
+    requires right_closed { IsClosed right.now.insns }
+    requires right_few { length right.now.insns ≤ 4096 }
+    ensures { IfOk result (λ answer. Compares answer.status left.now.insns right.now.insns (string_bytes answer.text)) }
+{
+    match refusal_of_unplain(alloc, left, right)? {
+        Some(text) => Ok(Answer {
+            status: Status::Refused,
+            text,
+        }),
+        None => compared(alloc, left, right),
     }
 }
 
@@ -84,5 +124,5 @@ pub fn decided<F: Shelf>(
             });
         }
     };
-    Ok(compared(alloc, &f, &g)?)
+    Ok(judged(alloc, &f, &g)?)
 }

@@ -1,7 +1,6 @@
 //! The texts that the program gives: reports, refusals and the usage.
 ghost use Rattle.std.specs.Prelude.{◌≡◌, ◌<◌, ◌++◌, length, slice_get, Some, string_bytes, IfOk, OnOk};
-ghost use Rattle.align_cli.specs.Report.{different_report, equivalent_report, differs_line, kind_name, large_refusal, line_refusal, register_line, register_lines, returned_line, side_name, usage_text, value_text};
-ghost use Rattle.att_reader.specs.PlainText.{register_names};
+ghost use Rattle.align_cli.specs.Report.{different_report, equivalent_report, differs_line, kind_name, large_refusal, line_refusal, named_refusal, register_line, register_lines, register_names, returned_line, side_name, unplain_refusal, usage_text, value_text};
 
 use align_base::Side;
 use att_reader::{ReadKind, ReadRefusal};
@@ -90,8 +89,17 @@ fn kind_name(kind: ReadKind) -> &'static str
 {
     match kind {
         ReadKind::Memory => "memory",
+        ReadKind::NotUtf8 => "not-utf8",
+        ReadKind::LineLong => "line-long",
         ReadKind::NoFunction => "no-function",
+        ReadKind::TwiceLabel => "twice-label",
+        ReadKind::DataInBody => "data-in-body",
         ReadKind::UnknownInstruction => "unknown-instruction",
+        ReadKind::PoolRefused => "pool-refused",
+        ReadKind::BadOperand => "bad-operand",
+        ReadKind::BadNumber => "bad-number",
+        ReadKind::UnknownLabel => "unknown-label",
+        ReadKind::TooManyInsns => "too-many-insns",
         ReadKind::FallsOff => "falls-off",
     }
 }
@@ -145,18 +153,31 @@ pub fn different(
     Ok(text)
 }
 
-/// The refusal of a text, at the line of its first fault.
-#[tactic(auto, unfolding(crate::specs::Report::line_refusal))]
-pub fn refused_line(alloc: Global, side: Side, refusal: ReadRefusal) -> Result<String, AllocError>
-    ensures { IfOk result (λ text. string_bytes text ≡ line_refusal side refusal.line refusal.kind) }
+/// A refusal at a line, by what it is called.
+#[tactic(auto, unfolding(crate::specs::Report::named_refusal))]
+fn refused(alloc: Global, side: Side, line: u32, name: &str) -> Result<String, AllocError>
+    ensures { IfOk result (λ text. string_bytes text ≡ named_refusal side line name.now) }
 {
     let mut text = String::from_str(alloc, "refused ")?;
     text.push_str(side_name(side))?;
-    let line = refusal.line;
     write!(text, " line {line} ")?;
-    text.push_str(kind_name(refusal.kind))?;
+    text.push_str(name)?;
     text.push_str("\n")?;
     Ok(text)
+}
+
+/// The refusal of a text, at the line of its first fault.
+pub fn refused_line(alloc: Global, side: Side, refusal: ReadRefusal) -> Result<String, AllocError>
+    ensures { IfOk result (λ text. string_bytes text ≡ line_refusal side refusal.line refusal.kind) }
+{
+    refused(alloc, side, refusal.line, kind_name(refusal.kind))
+}
+
+/// The refusal of a function that is not plain, at the line of its first instruction that is not.
+pub fn refused_unplain(alloc: Global, side: Side, line: u32) -> Result<String, AllocError>
+    ensures { IfOk result (λ text. string_bytes text ≡ unplain_refusal side line) }
+{
+    refused(alloc, side, line, "not-plain")
 }
 
 /// The refusal of a file of more bytes than the limit, of which so many were read.

@@ -1,13 +1,12 @@
 //! The top call: all that the program does.
-ghost use Rattle.std.specs.Prelude.{◌≡◌, ◌≢◌, ◌∷◌, ◌++◌, [], string_bytes, IfErr, IfOk, OnOk, MatchResult};
-ghost use Rattle.std.specs.List.{AllByRecursion};
+ghost use Rattle.std.specs.Prelude.{◌≡◌, ◌≢◌, ◌⊎◌, ◌∷◌, ◌++◌, [], string_bytes, IfErr, IfOk, OnOk, MatchResult};
 ghost use Rattle.align_base.specs.Causes.{Rose};
 ghost use Rattle.align_base.specs.Shelf.{NoneFailed};
 ghost use Rattle.align_base.specs.declared.status.Status.{Status};
-ghost use Rattle.align_cli.specs.Answers.{FailsAtFile, Finishes, Given, GivenPrefix, Refuses, TakesAtMost, Tells, TellsUsage};
+ghost use Rattle.align_cli.specs.Answers.{FailsAtFile, Finishes, Given, GivenPrefix, RefusesCommand, TakesAtMost, Tells, TellsUsage};
 ghost use Rattle.align_cli.specs.Command.{Command, IsCommand, IsUsageError, OfCommand};
-ghost use Rattle.align_cli.specs.Commands.{finals, Owes};
-ghost use Rattle.align_cli.specs.Files.{files_of, HasBadFile, IsGoodFile};
+ghost use Rattle.align_cli.specs.Commands.{Accepts, finals, Owes, Rejects};
+ghost use Rattle.align_cli.specs.Files.{files_of, HasBadFile};
 ghost use Rattle.align_cli.specs.Inside.{InterruptsArguments};
 ghost use Rattle.align_cli.specs.Report.{usage_text};
 ghost use Rattle.align_cli.specs.Statuses.{interruptions, IsOneOf};
@@ -72,9 +71,10 @@ pub fn align_main<R: Threads + Sync, G: Gate + Sync, F: Shelf, O: Sink>(
         (O.account out.old) (O.account out.new) }
     ensures known { result ≢ Status.Unknown }
 
-    // The first file, in order, that is too large or not what it has to be is refused.
+    // The first file, in order, that is too large or not what it has to be is refused, or else what all of
+    // them hold.
     ensures refused { result ≡ Status.Refused
-        → Given (λ report. OfCommand arguments.now (λ command. Refuses command (F.account shelf.old) (F.account shelf.new) report))
+        → Given (λ report. OfCommand arguments.now (λ command. RefusesCommand command (F.account shelf.old) (F.account shelf.new) report))
         (O.account out.old) (O.account out.new) }
 
     // The arguments are no command, and arguments that are none end so.
@@ -82,12 +82,14 @@ pub fn align_main<R: Threads + Sync, G: Gate + Sync, F: Shelf, O: Sink>(
         → Given (TellsUsage arguments.now (F.account shelf.old) (F.account shelf.new)) (O.account out.old) (O.account out.new) }
     ensures must_show_usage { IsUsageError arguments.now → IsOneOf (Status.Usage ∷ interruptions) result }
 
-    // A command with a bad file is refused, one with good files alone is carried out, and one whose files
-    // call for a status ends with it, unless a call failed or memory ran out.
+    // A command with a bad file, or with files whose contents it rejects, is refused, one that accepts them
+    // is carried out, and one whose files call for a status ends with it, unless a call failed or memory ran
+    // out.
     ensures must_refuse { (command : Command) → IsCommand arguments.now command
-        → HasBadFile (F.account shelf.old).holding (files_of command) → IsOneOf (Status.Refused ∷ interruptions) result }
+        → HasBadFile (F.account shelf.old).holding (files_of command) ⊎ Rejects command (F.account shelf.old).holding
+        → IsOneOf (Status.Refused ∷ interruptions) result }
     ensures must_finish { (command : Command) → IsCommand arguments.now command
-        → AllByRecursion (IsGoodFile (F.account shelf.old).holding) (files_of command) → IsOneOf (finals command ++ interruptions) result }
+        → Accepts command (F.account shelf.old).holding → IsOneOf (finals command ++ interruptions) result }
     ensures must_answer { (command : Command) (status : Status) → IsCommand arguments.now command
         → Owes command status (F.account shelf.old).holding → IsOneOf (status ∷ interruptions) result }
 
