@@ -1,10 +1,4 @@
-pub mod Pieces
-pub mod TextLines
 pub mod LoopSteps
-pub mod Decimals
-pub mod Operands
-pub mod Statements
-pub mod LineFaults
-pub mod PlainTexts
-pub mod PlainInsns
-pub mod WholeTexts
+pub mod TextLaws
+pub mod ClosedInsns
+pub mod ClosedTexts

@@ -1,4 +1,3 @@
-pub mod PlainText
+pub mod FunctionText
+pub mod Answers
 pub mod Reading
-pub mod ReadingLines
-pub mod Refusals

@@ -18,4 +18,6 @@ pub use faults::{long_line, wrong_line};
 pub use items::{Item, items_in};
 pub use labels::Labels;
 pub use refusal::{ReadKind, ReadRefusal, saturated};
-pub use words::{is_blank, is_digit, is_name, is_name_byte, is_name_start, split_word, trim, behind_blanks};
+pub use words::{
+    behind_blanks, is_blank, is_digit, is_name, is_name_byte, is_name_start, split_word, trim,
+};

@@ -1,4 +1,0 @@
-pub mod LoopSteps
-pub mod TextLaws
-pub mod ClosedInsns
-pub mod ClosedTexts

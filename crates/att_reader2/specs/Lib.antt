@@ -1,3 +1,0 @@
-pub mod FunctionText
-pub mod Answers
-pub mod Reading
