@@ -1,7 +1,7 @@
 -- The text of an instruction gives one of the table, which jumps to places that labels lead to.
 use Rattle.std.proofs.Common.{◌≡◌, ◌≢◌, ℕ, ◌-◌, ◌<◌, ◌≤◌, Bool, true, false, cond, eqb, ◌&&◌, ◌⊎◌, inl, inr, List, [], ◌∷◌, ◌++◌, length, replicate, Option, Some, None, Result, Ok, Err, IfSome, slice_get, zero, suc, refl, sym, ap, ◌∙◌, subst, arith}
 use Rattle.std.specs.List.{AllByRecursion}
-use Rattle.std.proofs.lemmas.List.{slice_get_within}
+use Rattle.std.proofs.lemmas.Option.{slice_get_within}
 use Rattle.align_base.specs.declared.op.Op.{Op}
 use Rattle.insn_table.specs.declared.insn.Operand.{Operand}
 use Rattle.insn_table.specs.declared.insn.Operand.TheVariants.{Reg, Imm, Mem, Vec, Pool, Target, Nothing}
@@ -89,7 +89,7 @@ all-append P (x ∷ xs) ys one two = (one.0, all-append P xs ys one.1 two)
 counted-right : (n : ℕ) (os : List Operand) → AllByRecursion (IsClosedOperand n) os → AllByRecursion (IsClosedOperand n) (counted_once os)
 counted-right n [] all = all
 counted-right n (a ∷ []) all = all
-counted-right n (a ∷ b ∷ rest) all = ((tt, tt), all.0, all.1.1)
+counted-right n (a ∷ b ∷ rest) all = ((tt, tt), (all.0, all.1.1))
 
 completed-right : (n : ℕ) (op : Op) (os : List Operand) → AllByRecursion (IsClosedOperand n) os → AllByRecursion (IsClosedOperand n) (completed op os)
 completed-right n op os all =

@@ -1,9 +1,8 @@
 -- The functions that texts spell are closed.
-use Rattle.std.proofs.Common.{◌≡◌, ℕ, zero, suc, ◌+◌, ◌-◌, ◌^◌, ◌<◌, ◌≤◌, min, Bool, true, false, cond, ltb, not, ◌⊎◌, inl, inr, List, [], ◌∷◌, ◌++◌, length, Option, Some, None, slice_get, refl, sym, ap, ◌∙◌, subst, append-nil, append_assoc, arith}
+use Rattle.std.proofs.Common.{◌≡◌, ℕ, zero, suc, ◌+◌, ◌-◌, ◌^◌, ◌<◌, ◌≤◌, min, Bool, true, false, cond, ltb, not, ◌⊎◌, inl, inr, List, [], ◌∷◌, ◌++◌, length, Option, Some, None, Result, Ok, Err, IfOk, slice_get, refl, sym, ap, ◌∙◌, subst, append-nil, append_assoc, arith}
 use Rattle.std.specs.List.{list_any, count_by, filter, AllZip, AllByRecursion}
 use Rattle.std.proofs.lemmas.Bool.{both_ways, ltb-true, ltb-false}
-use Rattle.std.proofs.lemmas.Option.{same_Some, none-some}
-use Rattle.std.proofs.lemmas.List.{slice_get_within}
+use Rattle.std.proofs.lemmas.Option.{same_Some, slice_get_within}
 use Rattle.std.proofs.lemmas.List.Sums.{length-filter}
 use Rattle.std.proofs.lemmas.Slice.Zip.{AllZip-long}
 use Rattle.align_base.specs.Firsts.{HasFault}
@@ -20,6 +19,9 @@ use Rattle.function_body.specs.Faults.{Fault, fault, IsFault}
 use Rattle.function_body.specs.Functions.{Spells, AreInsns, IsFunction}
 use Rattle.function_body.proofs.Counts.{count-cons, count-append, count-push, any-counted}
 use Rattle.att_statements.specs.Statements.{IsInsnText, IsBadStatement}
+use Rattle.insn_table.specs.declared.insn.Function.{Function}
+use Rattle.text_lines.specs.declared.refusal.ReadRefusal.{ReadRefusal}
+use Rattle.att_reader.specs.Answers.{Reads}
 use Rattle.att_reader.proofs.ClosedInsns.{insn-closed}
 
 few_code : (IsBad : List ℕ → ReadKind → Type 0) (before : List Item) (x : List ℕ) (k : ℕ) (is : List Item) → is_directive x ≡ false
@@ -91,3 +93,8 @@ function-closed name items insns f =
       targets = λ k i there. (right k i there).1;
       last = λ i there. subst (λ (x : Insn). IsLeaving x.op) (same_Some f.leaves.last i (sym f.leaves.there ∙ there)) f.leaves.leaves;
     }
+
+-- whatever is read is closed
+pub reads-closed : (text name : List ℕ) (r : Result Function ReadRefusal) → Reads text name r → IfOk r (λ f. IsClosed f.insns)
+reads-closed text name (Ok f) h = function-closed name h.items f.insns h.function
+reads-closed text name (Err e) h = tt

@@ -1,5 +1,5 @@
 -- Single turns of the code: items of a body that are read one after another, and what is told of a whole body.
-use Rattle.std.proofs.Common.{◌≡◌, ℕ, ◌+◌, ◌<◌, ◌≤◌, Bool, true, false, cond, ltb, List, [], ◌∷◌, ◌++◌, length, take, drop, get_or, map, Option, Some, None, Result, Ok, Err, refl, sym, ap, ◌∙◌, subst, append-nil, append_assoc, add-one, drop-cons, arith}
+use Rattle.std.proofs.Common.{◌≡◌, ℕ, ◌+◌, ◌<◌, ◌≤◌, Bool, true, false, cond, ltb, not, List, [], ◌∷◌, ◌++◌, length, take, drop, get_or, map, Option, Some, None, Result, Ok, Err, refl, sym, ap, ◌∙◌, subst, append-nil, append_assoc, add-one, drop-cons, arith}
 use Rattle.std.specs.List.{list_any, count_by}
 use Rattle.std.proofs.Math.Seq.{take-suc}
 use Rattle.std.proofs.Math.ListN.{drop_of_length-le}
@@ -11,13 +11,20 @@ use Rattle.text_lines.specs.declared.refusal.ReadKind.TheVariants.{Memory, NotUt
 use Rattle.text_lines.specs.declared.refusal.ReadRefusal.{ReadRefusal}
 use Rattle.text_lines.specs.declared.items.Item.{Item as KeptItem}
 use Rattle.text_lines.specs.Lines.{Item, Label, Statement}
-use Rattle.text_lines.specs.Kinds.{refusal, line_number}
+use Rattle.text_lines.specs.Kinds.{rank, refusal, line_number, out_of_memory}
+use Rattle.text_lines.specs.Statements.{Reads}
 use Rattle.text_lines.specs.Views.{seen}
-use Rattle.function_body.specs.Body.{is_label, is_directive, is_code}
+use Rattle.text_lines.specs.Cutting.{items_of_text}
+use Rattle.std.specs.Str.Lines.{lines}
+use Rattle.function_body.specs.Body.{is_label, is_directive, is_code, IsTarget}
 use Rattle.function_body.specs.Faults.{Fault, fault, is_data}
 use Rattle.function_body.specs.Functions.{last_line}
-use Rattle.function_body.specs.Reading.{extent_of, insns_of, item_of, at_line, counted, leaves, insns_in}
+use Rattle.function_body.specs.Reading.{target_of, extent_of, insns_of, item_of, at_line, counted, leaves, insns_in}
 use Rattle.function_body.proofs.Counts.{count-push}
+use Rattle.function_body.proofs.Targets.{finds-targets}
+use Rattle.function_body.proofs.Outcomes.{item-rank}
+use Rattle.att_statements.specs.Statements.{IsInsnText, IsBadStatement}
+use Rattle.att_statements.proofs.StatementTexts.{statements-read}
 use Rattle.att_statements.specs.ReadingStatements.{statement_of}
 use Rattle.att_reader.specs.Answers.{UnlessMemory, Gives}
 use Rattle.att_reader.specs.Reading.{told, listed, single, item_in, body_in, body_from, Grows, insns_of_text}
@@ -40,6 +47,31 @@ unless-map UnknownLabel line f h = f h
 unless-map TooManyInsns line f h = f h
 unless-map FallsOff line f h = f h
 
+-- what is said of out of memory
+pub unless-memory : (P : Type 0) (e : ReadRefusal) → e ≡ out_of_memory → UnlessMemory e.kind e.line P
+unless-memory P e is = subst (λ (x : ReadRefusal). UnlessMemory x.kind x.line P) (sym is) refl
+
+-- what is said of other kinds
+unless-known : {P : Type 0} (kind : ReadKind) (line : ℕ) → 0 < rank kind → P → UnlessMemory kind line P
+unless-known Memory line some h = absurd (omega arith)
+unless-known NotUtf8 line some h = h
+unless-known LineLong line some h = h
+unless-known NoFunction line some h = h
+unless-known TwiceLabel line some h = h
+unless-known DataInBody line some h = h
+unless-known UnknownInstruction line some h = h
+unless-known PoolRefused line some h = h
+unless-known BadOperand line some h = h
+unless-known BadNumber line some h = h
+unless-known UnknownLabel line some h = h
+unless-known TooManyInsns line some h = h
+unless-known FallsOff line some h = h
+
+-- a refusal that is told as this kind
+pub refused-is : (P : ReadRefusal → Type 0) (e : ReadRefusal) (k : ℕ) (kind : ReadKind) → 0 < rank kind → e ≡ refusal k kind → P (refusal k kind) → UnlessMemory e.kind e.line (P e)
+refused-is P e k kind some is h =
+    subst (λ (x : ReadRefusal). UnlessMemory x.kind x.line (P x)) (sym is) (unless-known kind (line_number k) some h)
+
 err_same : {V : Type 0} (a b : ReadRefusal) → ◌≡◌ {A = Result V ReadRefusal} (Err a) (Err b) → a ≡ b
 err_same a b h = cc
 
@@ -51,6 +83,30 @@ told-err {V = V} (Err f) e h = (f, refl, sym (err_same {V = V} (refusal f.line f
 pub told-ok : {V : Type 0} (r : Result V Fault) (v : V) → told r ≡ Ok v → r ≡ Ok v
 told-ok (Ok w) v h = cc
 told-ok (Err f) v h = cc
+
+-- single items
+
+reads_body : (body : List Item) → Reads (statement_of (target_of body)) (IsBadStatement (IsTarget body)) (IsInsnText (IsTarget body))
+reads_body body = statements-read (target_of body) (IsTarget body) (finds-targets body)
+
+item_known : (body before : List Item) (i : Item) (f : Fault) → item_in body before i ≡ Err f → 0 < rank f.kind
+unfolding item_in
+item_known body before i f is = omega (arith, item-rank (reads_body body) before i f is)
+
+-- an item that gives an instruction
+pub next-some : (o : Result (List Insn) Fault) (i : Insn) (old new : List Insn) → Ok (i ∷ []) ≡ told o → new ≡ old ++ i ∷ [] → Grows o old new
+next-some o i old new is more = subst (λ x. Grows x old new) (sym (told-ok o (i ∷ []) (sym is))) more
+
+-- an item that gives none
+pub next-none : (o : Result (List Insn) Fault) (old : List Insn) → Ok [] ≡ told o → Grows o old old
+next-none o old is = subst (λ x. Grows x old old) (sym (told-ok o [] (sym is))) (sym (append-nil old))
+
+-- an item that is at fault
+pub next-stops : (body before : List Item) (i : Item) (e : ReadRefusal) → Err e ≡ told (item_in body before i) → UnlessMemory e.kind e.line (told (item_in body before i) ≡ Err e)
+next-stops body before i e is =
+    let f = told-err (item_in body before i) e (sym is) in
+    let kinds : e.kind ≡ f.0.kind = ap (λ (x : ReadRefusal). x.kind) f.2 in
+    unless-known e.kind e.line (subst (λ kind. 0 < rank kind) (sym kinds) (item_known body before i f.0 f.1)) (sym is)
 
 -- items
 
@@ -150,7 +206,7 @@ grows_by : (r : List ℕ → ℕ → Result Insn ReadKind) (before : List Item) 
 grows_by r before (Label name k) insns new grows = let e = none_grows (list_any (is_label name) before) (fault k TwiceLabel) insns new grows in omega arith
 grows_by r before (Statement x k) insns new grows =
     elim (is_directive x) as (λ (t : Bool). Grows (cond t (cond (is_data x) (Err (fault k DataInBody)) (Ok [])) (at_line k (r x (line_number k)) >>= counted (count_by is_code before) k)) insns new
-    → length new ≡ length insns + cond (cond t false true) 1 0) [
+    → length new ≡ length insns + cond {A = ℕ} (not t) 1 0) [
       | true ↦ λ g. let e = none_grows (is_data x) (fault k DataInBody) insns new g in omega arith
       | false ↦ λ g. code_grows before x k (r x (line_number k)) insns new g
     ] grows
@@ -161,7 +217,7 @@ pub turn-counts : (kept : List KeptItem) (n : ℕ) (d : KeptItem) (insns new : L
 unfolding item_in
 turn-counts kept n d insns new within before grows =
     let i : Item = seen (get_or kept n d) in
-    let more = grows_by _ (take n (map seen kept)) i insns new grows in
+    let more = grows_by (statement_of (target_of (map seen kept))) (take n (map seen kept)) i insns new grows in
     let whole : count_by is_code (take (n + 1) (map seen kept)) ≡ count_by is_code (take n (map seen kept) ++ i ∷ []) = ap (count_by is_code) (take_next kept n d within) in
     omega (arith, count-push is_code (take n (map seen kept)) i)
 
@@ -188,3 +244,55 @@ module _ (name : List ℕ) (lines_of : ℕ) (items : List Item) where
         → told (insns_in statement_of name lines_of items) ≡ Err (refusal (last_line lines_of body after) FallsOff)
     unfolding body_in item_in
     text-open insns read goes_on = let e = told-ok (body_in body) insns read in rw (found, e, goes_on) refl
+
+-- the turns of the loop over a body
+
+pub turn-goes : (kept : List KeptItem) (n : ℕ) (d : KeptItem) (labels : List Item) (insns new : List Insn) → labels ≡ map seen kept → n < length kept
+    → Grows (item_in labels (take n labels) (seen (get_or kept n d))) insns new
+    → (body_from (map seen kept) (take n (map seen kept)) (drop n (map seen kept)) insns ≡ body_in (map seen kept)) × (length insns ≡ count_by is_code (take n (map seen kept)))
+    → (body_from (map seen kept) (take (n + 1) (map seen kept)) (drop (n + 1) (map seen kept)) new ≡ body_in (map seen kept))
+    × (length new ≡ count_by is_code (take (n + 1) (map seen kept)))
+turn-goes kept n d labels insns new same within grows before =
+    let moved = subst (λ (x : List Item). Grows (item_in x (take n x) (seen (get_or kept n d))) insns new) same grows in
+    (sym (turn-next kept n d within insns new moved) ∙ before.0, turn-counts kept n d insns new within before.1 moved)
+
+pub turn-fails : (kept : List KeptItem) (n : ℕ) (d : KeptItem) (labels : List Item) (insns : List Insn) (e : ReadRefusal) → labels ≡ map seen kept → n < length kept
+    → UnlessMemory e.kind e.line (told (item_in labels (take n labels) (seen (get_or kept n d))) ≡ Err e)
+    → body_from (map seen kept) (take n (map seen kept)) (drop n (map seen kept)) insns ≡ body_in (map seen kept)
+    → UnlessMemory e.kind e.line (told (body_in (map seen kept)) ≡ Err e)
+turn-fails kept n d labels insns e same within stops before =
+    let moved = subst (λ (x : List Item). UnlessMemory e.kind e.line (told (item_in x (take n x) (seen (get_or kept n d))) ≡ Err e)) same stops in
+    unless-map e.kind e.line (λ h. ap told (sym before) ∙ turn-stops kept n d within insns e h) moved
+
+pub turn-last : (kept : List KeptItem) (n : ℕ) (insns : List Insn) → length kept ≤ n
+    → body_from (map seen kept) (take n (map seen kept)) (drop n (map seen kept)) insns ≡ body_in (map seen kept) → told (body_in (map seen kept)) ≡ Ok insns
+turn-last kept n insns past before =
+    ap told (sym before ∙ body-ends (map seen kept) (take n (map seen kept)) (drop n (map seen kept)) insns (items-gone kept n past))
+
+-- the items of a text, as they are kept
+module _ (text name : List ℕ) (items slice : List KeptItem) (is : map seen items ≡ items_of_text text) (same : slice ≡ items) where
+  kept_items : map seen slice ≡ items_of_text text
+  kept_items = ap (map seen) same ∙ is
+
+  pub whole-missing : None ≡ extent_of name (map seen slice) → told (insns_of_text text name) ≡ Err (refusal 0 NoFunction)
+  unfolding insns_of_text
+  whole-missing none = text-missing name (length (lines text)) (items_of_text text) (ap (extent_of name) (sym kept_items) ∙ sym none)
+
+  module _ (body after : List Item) (found : Some (body, after) ≡ extent_of name (map seen slice)) where
+    found_there : extent_of name (items_of_text text) ≡ Some (body, after)
+    found_there = ap (extent_of name) (sym kept_items) ∙ sym found
+
+    pub whole-stops : (e : ReadRefusal) → UnlessMemory e.kind e.line (told (body_in body) ≡ Err e) → UnlessMemory e.kind e.line (told (insns_of_text text name) ≡ Err e)
+    unfolding insns_of_text
+    whole-stops e stops = unless-map e.kind e.line (text-stops name (length (lines text)) (items_of_text text) body after found_there e) stops
+
+    pub whole-closed : (insns : List Insn) → told (body_in body) ≡ Ok insns → leaves insns ≡ true → told (insns_of_text text name) ≡ Ok insns
+    unfolding insns_of_text
+    whole-closed insns read closed = text-closed name (length (lines text)) (items_of_text text) body after found_there insns read closed
+
+    pub whole-open : (count line : ℕ) (insns : List Insn) → count ≡ length (lines text) → line ≡ last_line count body after → told (body_in body) ≡ Ok insns → leaves insns ≡ false
+        → told (insns_of_text text name) ≡ Err (refusal line FallsOff)
+    unfolding insns_of_text
+    whole-open count line insns counted last read goes_on =
+        text-open name (length (lines text)) (items_of_text text) body after found_there insns read goes_on
+        ∙ ap (λ n. Err (refusal n FallsOff)) (sym (last ∙ ap (λ n. last_line n body after) counted))

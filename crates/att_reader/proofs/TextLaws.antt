@@ -108,5 +108,3 @@ gives-function text name (Err e) h f one = unless-map e.kind e.line (λ refused.
 pub gives-refusal : (text name : List ℕ) (r : Result Function ReadRefusal) → Reads text name r → (e : ReadRefusal) → IsRefused text name e → Gives r (Err e)
 gives-refusal text name (Ok f) h e refused = absurd (text-differs text name f e h refused)
 gives-refusal text name (Err other) h e refused = unless-map other.kind other.line (λ told_one. ap (λ (x : ReadRefusal). Err x) (refused-once text name e other refused told_one)) h
-
-pub ruleset meanings = (text-once, text-differs, refused-once)

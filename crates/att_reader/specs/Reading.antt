@@ -6,10 +6,10 @@ use Rattle.insn_table.specs.declared.insn.Insn.{Insn}
 use Rattle.insn_table.specs.declared.insn.Function.{Function}
 use Rattle.text_lines.specs.declared.refusal.ReadRefusal.{ReadRefusal}
 use Rattle.text_lines.specs.Lines.{Item}
-use Rattle.text_lines.specs.Kinds.{refusal}
+use Rattle.text_lines.specs.Kinds.{line_number, refusal}
 use Rattle.text_lines.specs.Cutting.{items_of_text}
 use Rattle.function_body.specs.Faults.{Fault}
-use Rattle.function_body.specs.Reading.{target_of, item_of, insns_of, insns_in}
+use Rattle.function_body.specs.Reading.{at_line, counted, target_of, item_of, insns_of, insns_in}
 use Rattle.att_statements.specs.ReadingStatements.{statement_of}
 
 -- an answer with its fault as it is told
@@ -26,6 +26,10 @@ listed (Err e) = Err e
 abbrev pub single : Result Insn ReadRefusal → Result (List Insn) ReadRefusal
 single (Ok i) = Ok (i ∷ [])
 single (Err e) = Err e
+
+-- what a statement on line k gives, where labels lead as the look-up says and n instructions stand before it
+abbrev pub insn_on : (List ℕ → Option ℕ) → ℕ → ℕ → List ℕ → Result (List Insn) Fault
+insn_on target n k x = at_line k (statement_of target x (line_number k)) >>= counted n k
 
 -- what an item of a body gives behind those before it
 unfoldable pub item_in : List Item → List Item → Item → Result (List Insn) Fault

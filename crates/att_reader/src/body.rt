@@ -1,15 +1,13 @@
 //! Reads the instructions of a function's body.
-ghost use Rattle.std.specs.Prelude.{◌≡◌, ◌++◌, length, map, take, OnOk, IfErr, vec_len};
+ghost use Rattle.std.specs.Prelude.{◌≡◌, map, take, OnOk, IfErr, vec_len};
 ghost use Rattle.std.specs.List.{count_by};
-ghost use Rattle.align_base.specs.Firsts.{◌>>=◌};
-ghost use Rattle.text_lines.specs.Kinds.{line_number, refusal};
+ghost use Rattle.text_lines.specs.Kinds.{refusal};
 ghost use Rattle.text_lines.specs.Views.{seen};
 ghost use Rattle.function_body.specs.Body.{is_code};
 ghost use Rattle.function_body.specs.Labelled.{labelled};
-ghost use Rattle.function_body.specs.Reading.{target_of, at_line, counted};
-ghost use Rattle.att_statements.specs.ReadingStatements.{statement_of};
+ghost use Rattle.function_body.specs.Reading.{target_of};
 ghost use Rattle.att_reader.specs.Answers.{UnlessMemory, Gives};
-ghost use Rattle.att_reader.specs.Reading.{told, listed, single, item_in, body_in, Grows};
+ghost use Rattle.att_reader.specs.Reading.{told, listed, single, insn_on, item_in, body_in, Grows};
 
 use att_statements::statement;
 use function_body::{BodyLabels, is_data, is_directive};
@@ -37,7 +35,7 @@ fn read_insn(
     count: usize,
     labels: &BodyLabels<'_, '_>,
 ) -> Result<Insn, ReadRefusal>
-    ensures { single result ≡ told (at_line line (statement_of (target_of (labelled labels.now)) text.now (line_number line)) >>= counted count line) }
+    ensures { single result ≡ told (insn_on (target_of (labelled labels.now)) count line text.now) }
 {
     match statement(text, saturated(line), labels) {
         Ok(insn) => {

@@ -5,7 +5,6 @@ ghost use Rattle.text_lines.specs.declared.refusal.ReadRefusal.{ReadRefusal};
 ghost use Rattle.att_reader.specs.FunctionText.{IsFunctionText, IsRefused};
 
 /// A law: a text spells at most one function of a name, is refused in at most one way, and not both.
-#[tactic(auto, using(crate::proofs::TextLaws::meanings))]
 pub fn texts_have_one_meaning()
     ensures function { (text name : List ℕ) (f g : Function)
         → IsFunctionText text name f → IsFunctionText text name g → f ≡ g }

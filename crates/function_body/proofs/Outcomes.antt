@@ -116,6 +116,10 @@ module _ {r : List ℕ → ℕ → Result Insn ReadKind} {IsBad : List ℕ → R
   fault-rank before (Statement x k) e (inr (inl bad)) = omega (arith, reads.known x e.kind bad.2)
   fault-rank before (Statement x k) e (inr (inr many)) = let same : rank e.kind ≡ 11 = ap (λ (f : Fault). rank f.kind) many.0 in omega arith
 
+  -- a fault that is read of an item is of such a kind
+  pub item-rank : (before : List Item) (i : Item) (e : Fault) → item_of r before i ≡ Err e → 4 ≤ rank e.kind
+  item-rank before i e is = fault-rank before i e (subst (IsItem (IsFault IsBad) Precedes (IsRead IsInsn) before i) is (item-outcome before i)).0
+
   later-line : (front : List Item) (m : ℕ) (is : List Item) (e : Fault) → order.AreOrdered m is → HasFault (IsFault IsBad) front is e → m ≤ e.line
   later-line front m is e ordered h =
       let at = order.ordered-at m h.before h.item h.after (subst (order.AreOrdered m) h.there ordered) in

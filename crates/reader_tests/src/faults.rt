@@ -33,7 +33,11 @@ fn labels_that_stand_twice(rt: HostRuntime) {
     let cases = [
         wrong(b"f:\n.L1: ret\n.L1: bogus\n .byte 1", 3, TwiceLabel),
         wrong(b"f:\n.L1:\n.L1: .quad 1\n bogus", 3, TwiceLabel),
-        wrong(b".L1:\nf:\n.L1:\n ret\n.L2: .L1: addq $1,%ah", 5, TwiceLabel),
+        wrong(
+            b".L1:\nf:\n.L1:\n ret\n.L2: .L1: addq $1,%ah",
+            5,
+            TwiceLabel,
+        ),
         wrong(b"f: .L1: .L1: ret", 1, TwiceLabel),
     ];
     assert_eq!(rt; first_other(rt.alloc(), &cases), cases.len());
@@ -55,8 +59,16 @@ fn data_in_the_body(rt: HostRuntime) {
 fn unknown_instructions(rt: HostRuntime) {
     let cases = [
         wrong(b"f:\n bogus x(%rip)\n .byte 1", 2, UnknownInstruction),
-        wrong(b"f:\n ret\n addps %xmm0,%xmm1\n jmp x(%rip)", 3, UnknownInstruction),
-        wrong(b"f:\n MOVQ %rax,%rbx\n addq $08,%rax", 2, UnknownInstruction),
+        wrong(
+            b"f:\n ret\n addps %xmm0,%xmm1\n jmp x(%rip)",
+            3,
+            UnknownInstruction,
+        ),
+        wrong(
+            b"f:\n MOVQ %rax,%rbx\n addq $08,%rax",
+            2,
+            UnknownInstruction,
+        ),
         wrong(b"f:\n mov %rax,%rbx\n ret", 2, UnknownInstruction),
         wrong(b"f:\n rep retq\n ret", 2, UnknownInstruction),
         wrong(b"f:\n rep ret %rax\n ret", 2, UnknownInstruction),
@@ -82,7 +94,11 @@ fn operands_that_no_form_takes(rt: HostRuntime) {
     let cases = [
         wrong(b"f:\n addq $1,%ah\n ret", 2, BadOperand),
         wrong(b"f:\n jne .L9,%rax\n bogus", 2, BadOperand),
-        wrong(b"f:\n addq $18446744073709551615,%ah\n bogus", 2, BadOperand),
+        wrong(
+            b"f:\n addq $18446744073709551615,%ah\n bogus",
+            2,
+            BadOperand,
+        ),
         wrong(b"f:\n addq $08,%rax\n ret", 2, BadOperand),
         wrong(b"f:\n movq (%rax,%rsp),%rax\n ret", 2, BadOperand),
         wrong(b"f:\n movq a+04(%rip),%rax\n ret", 2, BadOperand),
@@ -107,10 +123,18 @@ fn operands_that_no_form_takes(rt: HostRuntime) {
 fn numbers_out_of_range(rt: HostRuntime) {
     let cases = [
         wrong(b"f:\n addq $2147483648,%rax\n bogus", 2, BadNumber),
-        wrong(b"f:\n addl $18446744073709551615,%eax\n .byte 1", 2, BadNumber),
+        wrong(
+            b"f:\n addl $18446744073709551615,%eax\n .byte 1",
+            2,
+            BadNumber,
+        ),
         wrong(b"f:\n shlq $0,%rax\n jmp .L9", 2, BadNumber),
         wrong(b"f:\n shrb $8,%al\n ret", 2, BadNumber),
-        wrong(b"f:\n movabsq $18446744073709551616,%rax\n ret", 2, BadNumber),
+        wrong(
+            b"f:\n movabsq $18446744073709551616,%rax\n ret",
+            2,
+            BadNumber,
+        ),
     ];
     assert_eq!(rt; first_other(rt.alloc(), &cases), cases.len());
 }

@@ -28,29 +28,68 @@ fn comment(alloc: Global, count: u32, rest: &[u8]) -> Result<Vec<u8>, AllocError
 #[test]
 fn a_function_has_at_most_4096_instructions(rt: HostRuntime) -> Result<(), Fail> {
     let alloc = rt.alloc();
-    assert_eq!(rt; count_in(alloc, nops(alloc, 4095, b" ret")?.as_slice()), Ok(4096));
+    assert_eq!(rt;
+        count_in(alloc, nops(alloc, 4095, b" ret")?.as_slice()),
+        Ok(4096)
+    );
     for last in [b" ret".as_slice(), b" ret\n bogus", b" jmp f"] {
-        let wrong = ReadRefusal { line: 4098, kind: TooManyInsns };
-        assert_eq!(rt; count_in(alloc, nops(alloc, 4096, last)?.as_slice()), Err(wrong));
+        let wrong = ReadRefusal {
+            line: 4098,
+            kind: TooManyInsns,
+        };
+        assert_eq!(rt;
+            count_in(alloc, nops(alloc, 4096, last)?.as_slice()),
+            Err(wrong)
+        );
     }
-    let unknown = ReadRefusal { line: 4098, kind: UnknownInstruction };
-    assert_eq!(rt; count_in(alloc, nops(alloc, 4096, b" bogus")?.as_slice()), Err(unknown));
-    let lost = ReadRefusal { line: 4098, kind: UnknownLabel };
-    assert_eq!(rt; count_in(alloc, nops(alloc, 4096, b" jmp .L9")?.as_slice()), Err(lost));
+    let unknown = ReadRefusal {
+        line: 4098,
+        kind: UnknownInstruction,
+    };
+    assert_eq!(rt;
+        count_in(alloc, nops(alloc, 4096, b" bogus")?.as_slice()),
+        Err(unknown)
+    );
+    let lost = ReadRefusal {
+        line: 4098,
+        kind: UnknownLabel,
+    };
+    assert_eq!(rt;
+        count_in(alloc, nops(alloc, 4096, b" jmp .L9")?.as_slice()),
+        Err(lost)
+    );
     Ok(())
 }
 
 #[test]
 fn a_line_has_at_most_4096_bytes(rt: HostRuntime) -> Result<(), Fail> {
     let alloc = rt.alloc();
-    assert_eq!(rt; count_in(alloc, comment(alloc, 4096, b"\nf: ret")?.as_slice()), Ok(1));
-    assert_eq!(rt; count_in(alloc, comment(alloc, 4096, b"\r\nf: ret")?.as_slice()), Ok(1));
+    assert_eq!(rt;
+        count_in(alloc, comment(alloc, 4096, b"\nf: ret")?.as_slice()),
+        Ok(1)
+    );
+    assert_eq!(rt;
+        count_in(alloc, comment(alloc, 4096, b"\r\nf: ret")?.as_slice()),
+        Ok(1)
+    );
     for rest in [b"\nf: bogus".as_slice(), b"\r\n", b""] {
-        let wrong = ReadRefusal { line: 1, kind: LineLong };
-        assert_eq!(rt; count_in(alloc, comment(alloc, 4097, rest)?.as_slice()), Err(wrong));
+        let wrong = ReadRefusal {
+            line: 1,
+            kind: LineLong,
+        };
+        assert_eq!(rt;
+            count_in(alloc, comment(alloc, 4097, rest)?.as_slice()),
+            Err(wrong)
+        );
     }
-    let no_text = ReadRefusal { line: 2, kind: NotUtf8 };
-    assert_eq!(rt; count_in(alloc, comment(alloc, 4097, b"\n\xff")?.as_slice()), Err(no_text));
+    let no_text = ReadRefusal {
+        line: 2,
+        kind: NotUtf8,
+    };
+    assert_eq!(rt;
+        count_in(alloc, comment(alloc, 4097, b"\n\xff")?.as_slice()),
+        Err(no_text)
+    );
     Ok(())
 }
 

@@ -1,5 +1,5 @@
 //! Lines, labels and the extent of a body.
-use crate::reading::{first_other_count, wrong, first_other};
+use crate::reading::{first_other, first_other_count, wrong};
 use align_base::Word;
 use att_reader::ReadKind::{FallsOff, TwiceLabel, UnknownInstruction};
 use att_reader::{ReadRefusal, read_function};
@@ -40,7 +40,10 @@ fn text_outside_the_body_is_not_judged(rt: HostRuntime) {
         (b"f:\n ret\n.cfi_endproc\n bogus".as_slice(), 1),
         (b"f:\n ret\nf:\n bogus".as_slice(), 1),
         (b".L1:\nf:\n.L1:\n ret\n_end: .byte 1".as_slice(), 1),
-        (b"f:\n.cfi_startproc\n.type f, @function\n.section .text\n ret".as_slice(), 1),
+        (
+            b"f:\n.cfi_startproc\n.type f, @function\n.section .text\n ret".as_slice(),
+            1,
+        ),
         (b"f:\n.L1 : bogus\n ret".as_slice(), 1),
     ];
     assert_eq!(rt; first_other_count(rt.alloc(), &cases), cases.len());
@@ -65,8 +68,14 @@ fn bodies_go_on_behind_what_looks_like_an_end(rt: HostRuntime) {
 fn a_local_name_has_no_second_label(rt: HostRuntime) -> Result<(), Fail> {
     let alloc = rt.alloc();
     let name = Word::new(alloc, b".Lf")?;
-    let wrong = ReadRefusal { line: 3, kind: TwiceLabel };
-    assert_eq!(rt; read_function(alloc, b".Lf:\n ret\n.Lf:\n ret", &name).err(), Some(wrong));
+    let wrong = ReadRefusal {
+        line: 3,
+        kind: TwiceLabel,
+    };
+    assert_eq!(rt;
+        read_function(alloc, b".Lf:\n ret\n.Lf:\n ret", &name).err(),
+        Some(wrong)
+    );
     assert!(rt; read_function(alloc, b".Lf:\n ret\n", &name).is_ok());
     Ok(())
 }
@@ -77,6 +86,13 @@ fn instructions_have_the_numbers_of_their_lines(rt: HostRuntime) -> Result<(), F
     let name = Word::new(alloc, b"f")?;
     let f = read_function(alloc, b"\n# first\nf: nop\r\n\n.L1:\n jmp .L1\n", &name)?;
     assert_eq!(rt; f.name.bytes(), b"f".as_slice());
-    assert_eq!(rt; f.insns.as_slice().iter().map(|insn| insn.line).eq([3u32, 6].iter().copied()), true);
+    assert_eq!(rt;
+        f.insns
+            .as_slice()
+            .iter()
+            .map(|insn| insn.line)
+            .eq([3u32, 6].iter().copied()),
+        true
+    );
     Ok(())
 }

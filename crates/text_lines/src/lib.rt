@@ -1,4 +1,9 @@
 //! Cuts a text into lines, labels and statements, and says why texts are refused.
+//!
+//! `items_in(alloc, b"f: ret # done\n")` is the label `f` and the statement `ret`, both on line 1, and the
+//! number of lines: exactly the items that `specs/Lines.antt` says of a text, in their order. `wrong_line`
+//! and `long_line` find what is wrong with a text as a text. `Labels` and `specs/Statements.antt` are what
+//! a reader of single statements is given, and owes.
 #![tactic(auto)]
 
 mod cuts;
