@@ -1,8 +1,8 @@
 -- The files of a command, one after another: what each take says of the command.
-use Rattle.std.proofs.Common.{◌≡◌, inl, inr, ℕ, ◌+◌, List, [], ◌∷◌, length, Option, Result, Ok, Err, IfErr, IsErrAnd, Global, Vec, refl, sym, ◌∙◌, ap, subst, arith}
+use Rattle.std.proofs.Common.{◌≡◌, inl, inr, ℕ, ◌+◌, ◌≤◌, List, [], ◌∷◌, length, Option, Result, Ok, Err, IfErr, IsErrAnd, Global, Vec, refl, sym, ◌∙◌, ap, subst, arith}
 use Rattle.std.specs.List.{AllByRecursion}
 use Rattle.align_base.specs.Causes.{Rose, count_after}
-use Rattle.align_base.specs.Shelf.{CallFailed, Holding, IfLarge, NoneFailed, ShelfAccount, TakeCause}
+use Rattle.align_base.specs.Shelf.{CallFailed, Holding, Holds, IfLarge, NoneFailed, ShelfAccount, TakeCause}
 use Rattle.align_base.specs.declared.shelf.Call.{Call}
 use Rattle.align_base.specs.declared.shelf.Call.TheVariants.{Take}
 use Rattle.align_base.specs.declared.shelf.TakeFault.{TakeFault}
@@ -11,13 +11,20 @@ use Rattle.align_base.specs.declared.status.Side.{Side}
 use Rattle.align_base.specs.declared.status.Side.TheVariants.{Left, Right}
 use Rattle.align_base.specs.declared.status.Status.{Status}
 use Rattle.align_base.specs.declared.status.Status.TheVariants as status
+use Rattle.insn_table.specs.Closed.{IsClosed}
 use Rattle.insn_table.specs.declared.insn.Function.{Function}
+use Rattle.text_lines.specs.declared.refusal.ReadKind.{ReadKind}
+use Rattle.text_lines.specs.declared.refusal.ReadKind.TheVariants as kinds
+use Rattle.text_lines.specs.declared.refusal.ReadRefusal.{ReadRefusal}
+use Rattle.att_reader.specs.Answers.{UnlessMemory}
+use Rattle.att_reader.specs.FunctionText.{IsFunctionText, IsRefused}
+use Rattle.att_reader.proofs.ClosedTexts.{function-few}
 use Rattle.align_cli.specs.Answers.{FailsAtFile, Finishes, Refuses, RefusesRead, TellsOf}
 use Rattle.align_cli.specs.Command.{Command, DecidePlain, FunctionArguments}
 use Rattle.align_cli.specs.Commands.{HoldsFunction}
 use Rattle.align_cli.specs.Files.{IsReached, ReadsFile, RefusesFile, files_of, function_file}
 use Rattle.align_cli.specs.Inside.{Compares, Interrupts, InterruptsTake}
-use Rattle.align_cli.specs.Report.{large_refusal}
+use Rattle.align_cli.specs.Report.{large_refusal, line_refusal}
 use Rattle.align_cli.specs.declared.answer.Interruption.{Interruption}
 use Rattle.align_cli.specs.declared.answer.Interruption.TheVariants as interruption
 
@@ -32,6 +39,32 @@ pub large_refused : (told : Option Holding) (seen n limit : ℕ) (side : Side) (
     → RefusesFile told seen (function_file side arguments) report
 large_refused told seen n limit side arguments fault report is told_is large =
     let h = rw is at large in inl (record { more = h.2; seen_more = h.1; report_is = told_is ∙ ap (large_refusal side) h.0 })
+
+unless-memory : (kind : ReadKind) (line : ℕ) (P : Type 0) → UnlessMemory kind line P → (kind ≡ kinds.Memory → ⊥) → P
+unless-memory kinds.Memory line P h other = absurd (other refl)
+unless-memory _ line P h other = h
+
+-- a text that was refused refuses the file
+pub read-refused : (told : Option Holding) (seen : ℕ) (side : Side) (arguments : FunctionArguments) (text slice report : List ℕ) (e : ReadRefusal)
+    → Holds told arguments.file text → length text ≤ 16777216 → slice ≡ text → UnlessMemory e.kind e.line (IsRefused slice arguments.name e)
+    → (e.kind ≡ kinds.Memory → ⊥) → report ≡ line_refusal side e.line e.kind → RefusesFile told seen (function_file side arguments) report
+read-refused told seen side arguments text slice report e held small is refused other told_is =
+    let P : List ℕ → Type 0 = λ t. IsRefused t arguments.name e in
+    inr (record {
+      text = text;
+      held = held;
+      small = small;
+      refused = (e, subst P is (unless-memory e.kind e.line (IsRefused slice arguments.name e) refused other), told_is);
+    })
+
+-- a text that was read is held as its function
+pub read-function : (told : Option Holding) (arguments : FunctionArguments) (text slice : List ℕ) (f : Function) → Holds told arguments.file text
+    → length text ≤ 16777216 → slice ≡ text → IsFunctionText slice arguments.name f → IsClosed f.insns
+    → HoldsFunction told arguments f × IsClosed f.insns × (length f.insns ≤ 4096)
+read-function told arguments text slice f held small is read closed =
+    let P : List ℕ → Type 0 = λ t. IsFunctionText t arguments.name f in
+    let of_text = subst P is read in
+    (record { text = text; held = held; small = small; reads = of_text }, closed, function-few arguments.name of_text.items f.insns of_text.function)
 
 -- a take that answered Large did not fail
 pub large_stays : (call : Call) (before after : ShelfAccount) (n : ℕ) (fault : TakeFault) → fault ≡ take.Large n

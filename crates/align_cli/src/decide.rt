@@ -66,13 +66,13 @@ fn refusal_of_unplain(
     ensures { IfOk result (λ refusal. MatchOption refusal (IsPlain left.now.insns × IsPlain right.now.insns)
         (λ text. RefusesEither (string_bytes text) left.now.insns right.now.insns)) }
 {
-    if let Some(line) = first_unplain(left.insns.as_slice()) {
-        return Ok(Some(report::refused_unplain(alloc, Side::Left, line)?));
+    match first_unplain(left.insns.as_slice()) {
+        Some(line) => Ok(Some(report::refused_unplain(alloc, Side::Left, line)?)),
+        None => match first_unplain(right.insns.as_slice()) {
+            Some(line) => Ok(Some(report::refused_unplain(alloc, Side::Right, line)?)),
+            None => Ok(None),
+        },
     }
-    if let Some(line) = first_unplain(right.insns.as_slice()) {
-        return Ok(Some(report::refused_unplain(alloc, Side::Right, line)?));
-    }
-    Ok(None)
 }
 
 /// Judges two functions that were read: refuses the first that is not plain, and compares plain ones.

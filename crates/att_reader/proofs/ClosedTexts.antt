@@ -98,3 +98,10 @@ function-closed name items insns f =
 pub reads-closed : (text name : List ℕ) (r : Result Function ReadRefusal) → Reads text name r → IfOk r (λ f. IsClosed f.insns)
 reads-closed text name (Ok f) h = function-closed name h.items f.insns h.function
 reads-closed text name (Err e) h = tt
+
+-- a function that items spell has at most 4,096 instructions
+pub function-few : (name : List ℕ) (items : List Item) (insns : List Insn) → IsFunction IsBadStatement IsInsnText name items insns → length insns ≤ 4096
+function-few name items insns f =
+    let long = insns-long (IsInsnText (IsTarget f.body)) f.body insns f.read in
+    let few : count_by is_code f.body ≤ 4096 = few-code (IsBadStatement (IsTarget f.body)) [] f.body f.sound (omega arith) in
+    omega (arith, long, few)

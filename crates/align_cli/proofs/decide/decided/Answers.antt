@@ -35,3 +35,10 @@ returns-in_err-judged-clause-takes g c = (2, omega arith, counted_twice _ _ _ c.
 
 pub returns-clause-takes : goal.returns-clause-takes
 returns-clause-takes g c = (2, omega arith, counted_twice _ _ _ c.function_in.ensures.taken c.function_in-2.ensures.taken)
+
+pub returns-clause-ok : goal.returns-clause-ok
+returns-clause-ok g c =
+    let left = rw c.in-Read.is at c.in_ok-function.ensures.ok in
+    let right = rw c.in-Read-2.is at c.in_ok-function-2.ensures.ok in
+    both-read (g.F.Shelf.account c.args.shelf.now) (g.F.Shelf.account c.function_in.new.shelf) (g.F.Shelf.account c.function_in-2.new.shelf) _ _ _ left.0
+    c.function_in.ensures.holding c.function_in.ensures.taken c.function_in-2.ensures.taken _ right.0 _ _ c.in_ok-judged.ensures
