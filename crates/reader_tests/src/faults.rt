@@ -1,5 +1,5 @@
 //! Each kind of refusal, with other faults behind it on its line and on later lines.
-use crate::reading::{first_other, wrong};
+use crate::reading::{first_other, refused_at};
 use att_reader::ReadKind::{
     BadNumber, BadOperand, DataInBody, FallsOff, NoFunction, NotUtf8, PoolRefused, TwiceLabel,
     UnknownInstruction, UnknownLabel,
@@ -8,10 +8,10 @@ use att_reader::ReadKind::{
 #[test]
 fn texts_that_are_no_utf8(rt: HostRuntime) {
     let cases = [
-        wrong(b"\xff", 1, NotUtf8),
-        wrong(b"f:\n ret # \xff\n", 2, NotUtf8),
-        wrong(b"f:\n bogus\n ret # \xc3\n\n\xff", 3, NotUtf8),
-        wrong(b"\n\nf: ret\n# \xe2\x82", 4, NotUtf8),
+        refused_at(b"\xff", 1, NotUtf8),
+        refused_at(b"f:\n ret # \xff\n", 2, NotUtf8),
+        refused_at(b"f:\n bogus\n ret # \xc3\n\n\xff", 3, NotUtf8),
+        refused_at(b"\n\nf: ret\n# \xe2\x82", 4, NotUtf8),
     ];
     assert_eq!(rt; first_other(rt.alloc(), &cases), cases.len());
 }
@@ -19,11 +19,11 @@ fn texts_that_are_no_utf8(rt: HostRuntime) {
 #[test]
 fn names_without_label(rt: HostRuntime) {
     let cases = [
-        wrong(b"", 0, NoFunction),
-        wrong(b"g:\n bogus\n", 0, NoFunction),
-        wrong(b"f : ret", 0, NoFunction),
-        wrong(b"# f:\n.f: ret", 0, NoFunction),
-        wrong(b"ff:\n ret", 0, NoFunction),
+        refused_at(b"", 0, NoFunction),
+        refused_at(b"g:\n bogus\n", 0, NoFunction),
+        refused_at(b"f : ret", 0, NoFunction),
+        refused_at(b"# f:\n.f: ret", 0, NoFunction),
+        refused_at(b"ff:\n ret", 0, NoFunction),
     ];
     assert_eq!(rt; first_other(rt.alloc(), &cases), cases.len());
 }
@@ -31,14 +31,14 @@ fn names_without_label(rt: HostRuntime) {
 #[test]
 fn labels_that_stand_twice(rt: HostRuntime) {
     let cases = [
-        wrong(b"f:\n.L1: ret\n.L1: bogus\n .byte 1", 3, TwiceLabel),
-        wrong(b"f:\n.L1:\n.L1: .quad 1\n bogus", 3, TwiceLabel),
-        wrong(
+        refused_at(b"f:\n.L1: ret\n.L1: bogus\n .byte 1", 3, TwiceLabel),
+        refused_at(b"f:\n.L1:\n.L1: .quad 1\n bogus", 3, TwiceLabel),
+        refused_at(
             b".L1:\nf:\n.L1:\n ret\n.L2: .L1: addq $1,%ah",
             5,
             TwiceLabel,
         ),
-        wrong(b"f: .L1: .L1: ret", 1, TwiceLabel),
+        refused_at(b"f: .L1: .L1: ret", 1, TwiceLabel),
     ];
     assert_eq!(rt; first_other(rt.alloc(), &cases), cases.len());
 }
@@ -46,11 +46,11 @@ fn labels_that_stand_twice(rt: HostRuntime) {
 #[test]
 fn data_in_the_body(rt: HostRuntime) {
     let cases = [
-        wrong(b"f:\n .byte 1\n bogus\n ret", 2, DataInBody),
-        wrong(b"f:\n ret\n .quad .L4\n.L1:\n.L1:", 3, DataInBody),
-        wrong(b"f:\n.L1: .double 1.5 # x\n.L1: ret", 2, DataInBody),
-        wrong(b"f:\n .zero\n jmp .L9", 2, DataInBody),
-        wrong(b"f:\n .asciz \"ret\"\n", 2, DataInBody),
+        refused_at(b"f:\n .byte 1\n bogus\n ret", 2, DataInBody),
+        refused_at(b"f:\n ret\n .quad .L4\n.L1:\n.L1:", 3, DataInBody),
+        refused_at(b"f:\n.L1: .double 1.5 # x\n.L1: ret", 2, DataInBody),
+        refused_at(b"f:\n .zero\n jmp .L9", 2, DataInBody),
+        refused_at(b"f:\n .asciz \"ret\"\n", 2, DataInBody),
     ];
     assert_eq!(rt; first_other(rt.alloc(), &cases), cases.len());
 }
@@ -58,22 +58,22 @@ fn data_in_the_body(rt: HostRuntime) {
 #[test]
 fn unknown_instructions(rt: HostRuntime) {
     let cases = [
-        wrong(b"f:\n bogus x(%rip)\n .byte 1", 2, UnknownInstruction),
-        wrong(
+        refused_at(b"f:\n bogus x(%rip)\n .byte 1", 2, UnknownInstruction),
+        refused_at(
             b"f:\n ret\n addps %xmm0,%xmm1\n jmp x(%rip)",
             3,
             UnknownInstruction,
         ),
-        wrong(
+        refused_at(
             b"f:\n MOVQ %rax,%rbx\n addq $08,%rax",
             2,
             UnknownInstruction,
         ),
-        wrong(b"f:\n mov %rax,%rbx\n ret", 2, UnknownInstruction),
-        wrong(b"f:\n rep retq\n ret", 2, UnknownInstruction),
-        wrong(b"f:\n rep ret %rax\n ret", 2, UnknownInstruction),
-        wrong(b"f:\n nopw 0(%rax)\n ret", 2, UnknownInstruction),
-        wrong(b"f:\n ret; ret", 2, UnknownInstruction),
+        refused_at(b"f:\n mov %rax,%rbx\n ret", 2, UnknownInstruction),
+        refused_at(b"f:\n rep retq\n ret", 2, UnknownInstruction),
+        refused_at(b"f:\n rep ret %rax\n ret", 2, UnknownInstruction),
+        refused_at(b"f:\n nopw 0(%rax)\n ret", 2, UnknownInstruction),
+        refused_at(b"f:\n ret; ret", 2, UnknownInstruction),
     ];
     assert_eq!(rt; first_other(rt.alloc(), &cases), cases.len());
 }
@@ -81,10 +81,10 @@ fn unknown_instructions(rt: HostRuntime) {
 #[test]
 fn operands_in_a_pool(rt: HostRuntime) {
     let cases = [
-        wrong(b"f:\n movq .LC0(%rip),%rax\n bogus", 2, PoolRefused),
-        wrong(b"f:\n addl a+4(%rip),%ah\n ret", 2, PoolRefused),
-        wrong(b"f:\n cmpl $99999999999,a-18( %rip )\n ret", 2, PoolRefused),
-        wrong(b"f:\n leaq .LC0(%rip),%rax\n jmp .L9", 2, PoolRefused),
+        refused_at(b"f:\n movq .LC0(%rip),%rax\n bogus", 2, PoolRefused),
+        refused_at(b"f:\n addl a+4(%rip),%ah\n ret", 2, PoolRefused),
+        refused_at(b"f:\n cmpl $99999999999,a-18( %rip )\n ret", 2, PoolRefused),
+        refused_at(b"f:\n leaq .LC0(%rip),%rax\n jmp .L9", 2, PoolRefused),
     ];
     assert_eq!(rt; first_other(rt.alloc(), &cases), cases.len());
 }
@@ -92,29 +92,29 @@ fn operands_in_a_pool(rt: HostRuntime) {
 #[test]
 fn operands_that_no_form_takes(rt: HostRuntime) {
     let cases = [
-        wrong(b"f:\n addq $1,%ah\n ret", 2, BadOperand),
-        wrong(b"f:\n jne .L9,%rax\n bogus", 2, BadOperand),
-        wrong(
+        refused_at(b"f:\n addq $1,%ah\n ret", 2, BadOperand),
+        refused_at(b"f:\n jne .L9,%rax\n bogus", 2, BadOperand),
+        refused_at(
             b"f:\n addq $18446744073709551615,%ah\n bogus",
             2,
             BadOperand,
         ),
-        wrong(b"f:\n addq $08,%rax\n ret", 2, BadOperand),
-        wrong(b"f:\n movq (%rax,%rsp),%rax\n ret", 2, BadOperand),
-        wrong(b"f:\n movq a+04(%rip),%rax\n ret", 2, BadOperand),
-        wrong(b"f:\n movq a + 4(%rip),%rax\n ret", 2, BadOperand),
-        wrong(b"f:\n movq a (%rip),%rax\n ret", 2, BadOperand),
-        wrong(b"f:\n movq 8(%rip),%rax\n ret", 2, BadOperand),
-        wrong(b"f:\n movq a+0x4(%rip),%rax\n ret", 2, BadOperand),
-        wrong(b"f:\n movq 2147483648(%rax),%rax\n ret", 2, BadOperand),
-        wrong(b"f:\n movq (%rdi,%rcx,0x4),%rax\n ret", 2, BadOperand),
-        wrong(b"f:\n movq (%rdi,%rcx,),%rax\n ret", 2, BadOperand),
-        wrong(b"f:\n movq (%rax,,1),%rax\n ret", 2, BadOperand),
-        wrong(b"f:\n movq ((((\n ret", 2, BadOperand),
-        wrong(b"f:\n movq (%rax),(%rbx)\n ret", 2, BadOperand),
-        wrong(b"f:\n jmp $5\n ret", 2, BadOperand),
-        wrong(b"f:\n nop %rax\n ret", 2, BadOperand),
-        wrong(b"f:\n ret $8\n", 2, BadOperand),
+        refused_at(b"f:\n addq $08,%rax\n ret", 2, BadOperand),
+        refused_at(b"f:\n movq (%rax,%rsp),%rax\n ret", 2, BadOperand),
+        refused_at(b"f:\n movq a+04(%rip),%rax\n ret", 2, BadOperand),
+        refused_at(b"f:\n movq a + 4(%rip),%rax\n ret", 2, BadOperand),
+        refused_at(b"f:\n movq a (%rip),%rax\n ret", 2, BadOperand),
+        refused_at(b"f:\n movq 8(%rip),%rax\n ret", 2, BadOperand),
+        refused_at(b"f:\n movq a+0x4(%rip),%rax\n ret", 2, BadOperand),
+        refused_at(b"f:\n movq 2147483648(%rax),%rax\n ret", 2, BadOperand),
+        refused_at(b"f:\n movq (%rdi,%rcx,0x4),%rax\n ret", 2, BadOperand),
+        refused_at(b"f:\n movq (%rdi,%rcx,),%rax\n ret", 2, BadOperand),
+        refused_at(b"f:\n movq (%rax,,1),%rax\n ret", 2, BadOperand),
+        refused_at(b"f:\n movq ((((\n ret", 2, BadOperand),
+        refused_at(b"f:\n movq (%rax),(%rbx)\n ret", 2, BadOperand),
+        refused_at(b"f:\n jmp $5\n ret", 2, BadOperand),
+        refused_at(b"f:\n nop %rax\n ret", 2, BadOperand),
+        refused_at(b"f:\n ret $8\n", 2, BadOperand),
     ];
     assert_eq!(rt; first_other(rt.alloc(), &cases), cases.len());
 }
@@ -122,15 +122,15 @@ fn operands_that_no_form_takes(rt: HostRuntime) {
 #[test]
 fn numbers_out_of_range(rt: HostRuntime) {
     let cases = [
-        wrong(b"f:\n addq $2147483648,%rax\n bogus", 2, BadNumber),
-        wrong(
+        refused_at(b"f:\n addq $2147483648,%rax\n bogus", 2, BadNumber),
+        refused_at(
             b"f:\n addl $18446744073709551615,%eax\n .byte 1",
             2,
             BadNumber,
         ),
-        wrong(b"f:\n shlq $0,%rax\n jmp .L9", 2, BadNumber),
-        wrong(b"f:\n shrb $8,%al\n ret", 2, BadNumber),
-        wrong(
+        refused_at(b"f:\n shlq $0,%rax\n jmp .L9", 2, BadNumber),
+        refused_at(b"f:\n shrb $8,%al\n ret", 2, BadNumber),
+        refused_at(
             b"f:\n movabsq $18446744073709551616,%rax\n ret",
             2,
             BadNumber,
@@ -142,13 +142,13 @@ fn numbers_out_of_range(rt: HostRuntime) {
 #[test]
 fn labels_that_lead_nowhere(rt: HostRuntime) {
     let cases = [
-        wrong(b"f:\n jne .L9\n bogus", 2, UnknownLabel),
-        wrong(b"f:\n jmp .L1\n.L1:\n", 2, UnknownLabel),
-        wrong(b"f:\n jmp .L1\n.L1:\n .p2align 4\n", 2, UnknownLabel),
-        wrong(b"f:\n jmp g\ng:\n ret", 2, UnknownLabel),
-        wrong(b"g:\nf:\n jmp g\n ret", 3, UnknownLabel),
-        wrong(b"f:\n jmp $foo\n bogus", 2, UnknownLabel),
-        wrong(b"f:\n jne .L1\n.L1:\n bogus", 4, UnknownInstruction),
+        refused_at(b"f:\n jne .L9\n bogus", 2, UnknownLabel),
+        refused_at(b"f:\n jmp .L1\n.L1:\n", 2, UnknownLabel),
+        refused_at(b"f:\n jmp .L1\n.L1:\n .p2align 4\n", 2, UnknownLabel),
+        refused_at(b"f:\n jmp g\ng:\n ret", 2, UnknownLabel),
+        refused_at(b"g:\nf:\n jmp g\n ret", 3, UnknownLabel),
+        refused_at(b"f:\n jmp $foo\n bogus", 2, UnknownLabel),
+        refused_at(b"f:\n jne .L1\n.L1:\n bogus", 4, UnknownInstruction),
     ];
     assert_eq!(rt; first_other(rt.alloc(), &cases), cases.len());
 }
@@ -156,14 +156,14 @@ fn labels_that_lead_nowhere(rt: HostRuntime) {
 #[test]
 fn functions_that_fall_off(rt: HostRuntime) {
     let cases = [
-        wrong(b"f:", 1, FallsOff),
-        wrong(b"f:\n nop", 2, FallsOff),
-        wrong(b"f:\n nop\n\n", 3, FallsOff),
-        wrong(b"f:\n nop\n .size f,.-f\n bogus", 2, FallsOff),
-        wrong(b"f:\n nop\n.L1: .cfi_endproc\n", 3, FallsOff),
-        wrong(b"f: g: ret", 1, FallsOff),
-        wrong(b"f:\n ret\n jne f\n\n\ng: ret", 5, FallsOff),
-        wrong(b"f:\n ret\n nop # ret\n", 3, FallsOff),
+        refused_at(b"f:", 1, FallsOff),
+        refused_at(b"f:\n nop", 2, FallsOff),
+        refused_at(b"f:\n nop\n\n", 3, FallsOff),
+        refused_at(b"f:\n nop\n .size f,.-f\n bogus", 2, FallsOff),
+        refused_at(b"f:\n nop\n.L1: .cfi_endproc\n", 3, FallsOff),
+        refused_at(b"f: g: ret", 1, FallsOff),
+        refused_at(b"f:\n ret\n jne f\n\n\ng: ret", 5, FallsOff),
+        refused_at(b"f:\n ret\n nop # ret\n", 3, FallsOff),
     ];
     assert_eq!(rt; first_other(rt.alloc(), &cases), cases.len());
 }

@@ -1,5 +1,5 @@
 //! Lines, labels and the extent of a body.
-use crate::reading::{first_other, first_other_count, wrong};
+use crate::reading::{first_other, first_other_count, refused_at};
 use align_base::Word;
 use att_reader::ReadKind::{FallsOff, TwiceLabel, UnknownInstruction};
 use att_reader::{ReadRefusal, read_function};
@@ -52,14 +52,14 @@ fn text_outside_the_body_is_not_judged(rt: HostRuntime) {
 #[test]
 fn bodies_go_on_behind_what_looks_like_an_end(rt: HostRuntime) {
     let cases = [
-        wrong(b"f:\n ret\n.size f+1,1\n nop\n", 4, FallsOff),
-        wrong(b"f:\n ret\n.size ff,.-ff\n nop\n", 4, FallsOff),
-        wrong(b"f:\n ret\n.sizes f\n nop\n", 4, FallsOff),
-        wrong(b"f:\n ret\n.Lg:\n bogus", 4, UnknownInstruction),
-        wrong(b"f:\n x : ret", 2, UnknownInstruction),
-        wrong(b"f:\n 1: ret", 2, UnknownInstruction),
-        wrong(b"f:\n ret\r", 2, UnknownInstruction),
-        wrong(b"f:\n re\rt\n", 2, UnknownInstruction),
+        refused_at(b"f:\n ret\n.size f+1,1\n nop\n", 4, FallsOff),
+        refused_at(b"f:\n ret\n.size ff,.-ff\n nop\n", 4, FallsOff),
+        refused_at(b"f:\n ret\n.sizes f\n nop\n", 4, FallsOff),
+        refused_at(b"f:\n ret\n.Lg:\n bogus", 4, UnknownInstruction),
+        refused_at(b"f:\n x : ret", 2, UnknownInstruction),
+        refused_at(b"f:\n 1: ret", 2, UnknownInstruction),
+        refused_at(b"f:\n ret\r", 2, UnknownInstruction),
+        refused_at(b"f:\n re\rt\n", 2, UnknownInstruction),
     ];
     assert_eq!(rt; first_other(rt.alloc(), &cases), cases.len());
 }

@@ -19,7 +19,7 @@ pub(crate) struct Wrong {
 }
 
 /// A text that is refused at this line.
-pub(crate) fn wrong(text: &'static [u8], line: u32, kind: ReadKind) -> Wrong {
+pub(crate) fn refused_at(text: &'static [u8], line: u32, kind: ReadKind) -> Wrong {
     Wrong { text, line, kind }
 }
 

@@ -1,5 +1,5 @@
 //! Statements of a function: ranges of numbers, forms of operands, and what they are read as.
-use crate::reading::{first_other, first_other_count, wrong};
+use crate::reading::{first_other, first_other_count, refused_at};
 use align_base::Word;
 use att_reader::ReadKind::BadNumber;
 use att_reader::read_function;
@@ -42,19 +42,19 @@ fn numbers_at_the_ends_of_their_ranges(rt: HostRuntime) {
 #[test]
 fn numbers_one_beyond_their_ranges(rt: HostRuntime) {
     let cases = [
-        wrong(b"f:\n addb $-129,%al\n ret", 2, BadNumber),
-        wrong(b"f:\n addb $256,%al\n ret", 2, BadNumber),
-        wrong(b"f:\n addw $-32769,%ax\n ret", 2, BadNumber),
-        wrong(b"f:\n addw $65536,%ax\n ret", 2, BadNumber),
-        wrong(b"f:\n addl $-2147483649,%eax\n ret", 2, BadNumber),
-        wrong(b"f:\n addl $4294967296,%eax\n ret", 2, BadNumber),
-        wrong(b"f:\n addq $-2147483649,%rax\n ret", 2, BadNumber),
-        wrong(
+        refused_at(b"f:\n addb $-129,%al\n ret", 2, BadNumber),
+        refused_at(b"f:\n addb $256,%al\n ret", 2, BadNumber),
+        refused_at(b"f:\n addw $-32769,%ax\n ret", 2, BadNumber),
+        refused_at(b"f:\n addw $65536,%ax\n ret", 2, BadNumber),
+        refused_at(b"f:\n addl $-2147483649,%eax\n ret", 2, BadNumber),
+        refused_at(b"f:\n addl $4294967296,%eax\n ret", 2, BadNumber),
+        refused_at(b"f:\n addq $-2147483649,%rax\n ret", 2, BadNumber),
+        refused_at(
             b"f:\n movabsq $-9223372036854775809,%rax\n ret",
             2,
             BadNumber,
         ),
-        wrong(b"f:\n shlq $64,%rax\n ret", 2, BadNumber),
+        refused_at(b"f:\n shlq $64,%rax\n ret", 2, BadNumber),
     ];
     assert_eq!(rt; first_other(rt.alloc(), &cases), cases.len());
 }
