@@ -1,5 +1,5 @@
 -- What the code reads of memory operands, against what they are.
-use Rattle.std.proofs.Common.{◌≡◌, ◌≢◌, ℕ, ◌+◌, ◌-◌, ◌^◌, ◌<◌, ◌≤◌, ◌⊎◌, inl, inr, min, ℤ, pos, Bool, true, false, ◌&&◌, cond, eqb, ltb, leb, List, [], ◌∷◌, ◌++◌, length, Option, Some, None, slice_get, codes, refl, sym, ap, ◌∙◌, subst, arith}
+use Rattle.std.proofs.Common.{◌≡◌, ℕ, ◌+◌, ◌-◌, ◌^◌, ◌<◌, ◌≤◌, inl, inr, min, ℤ, pos, Bool, true, false, cond, eqb, ltb, leb, List, [], ◌∷◌, length, Option, Some, None, refl, sym, ap, ◌∙◌, subst, arith}
 use Rattle.std.specs.Option.{option_map}
 use Rattle.std.proofs.lemmas.Bool.{ltb-true, lt-ltb, leb-true, le-leb, eqb-true, eqb-false, ne_eqb}
 use Rattle.std.proofs.lemmas.Option.{same_Some}
@@ -8,7 +8,7 @@ use Rattle.insn_table.specs.declared.insn.Operand.TheVariants.{Mem}
 use Rattle.insn_table.specs.Table.{IsScale}
 use Rattle.text_lines.specs.Words.{IsPadded, trim}
 use Rattle.text_lines.proofs.Trimming.{trim-known, trim-only}
-use Rattle.att_statements.specs.Operands.{register_names, IsRegisterText, IsNumber, integer, IsBetween, IsDisplacement, IsAddressRegister, IsBase, IsIndex, IsScaleText, AreAddressParts, AreParts, IsParenthesised, IsMemoryText}
+use Rattle.att_statements.specs.Operands.{IsNumber, integer, IsBetween, IsDisplacement, IsAddressRegister, IsBase, IsIndex, IsScaleText, AreAddressParts, IsParenthesised, IsMemoryText}
 use Rattle.att_statements.specs.ReadingOperands.{◌>>=◌, after_byte, number_of, small_integer, displacement_in, register_number, address_register, base_of, index_of, scale_by, scale_of, Address, address_in, parts_from, memory_of}
 use Rattle.att_statements.proofs.NumberTexts.{chosen_then, chosen_else, bind_some, map_some, after_byte-known, number-known, number-only}
 use Rattle.att_statements.proofs.RegisterTexts.{number-named, wide-named}

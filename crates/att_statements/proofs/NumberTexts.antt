@@ -1,9 +1,9 @@
 -- What the code reads of numbers, against what numbers are.
-use Rattle.std.proofs.Common.{◌≡◌, ◌≢◌, ℕ, ◌+◌, ◌-◌, ◌*◌, ◌^◌, ◌<◌, ◌≤◌, ◌⊎◌, min, inl, inr, Bool, true, false, ◌&&◌, ◌||◌, cond, eqb, ltb, leb, List, [], ◌∷◌, length, get_or, Option, Some, None, slice_get, codes, refl, sym, ap, ◌∙◌, subst, arith}
+use Rattle.std.proofs.Common.{◌≡◌, ◌≢◌, ℕ, ◌+◌, ◌*◌, ◌^◌, ◌<◌, ◌≤◌, ◌⊎◌, min, inl, inr, Bool, true, false, ◌&&◌, cond, eqb, ltb, leb, List, [], ◌∷◌, length, get_or, Option, Some, None, slice_get, refl, sym, ap, ◌∙◌, subst, arith}
 use Rattle.std.specs.List.{list_all}
 use Rattle.std.specs.Option.{option_map, option_or}
-use Rattle.std.proofs.lemmas.Bool.{and_parts, and_from, or_parts, and_cases, and_right, ltb-true, lt-ltb, ltb-false, le-ltb, leb-true, leb-false, eqb-true, eqb-false, ne_eqb, both_ways}
-use Rattle.std.proofs.lemmas.Option.{same_Some, get_or_from_slice_get, slice_get-get_or}
+use Rattle.std.proofs.lemmas.Bool.{and_parts, and_from, and_cases, and_right, ltb-false, le-ltb, leb-true, leb-false, eqb-true, eqb-false, ne_eqb}
+use Rattle.std.proofs.lemmas.Option.{same_Some}
 use Rattle.att_statements.specs.Operands.{digit_value, AreDigits, value_from, IsDecimal, IsHexadecimal, IsAmount, IsNumber}
 use Rattle.att_statements.specs.ReadingOperands.{◌>>=◌, after_byte, digits_from, digits_of, decimal_of, hexadecimal_of, amount_of, signed_by, number_of}
 

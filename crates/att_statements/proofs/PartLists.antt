@@ -1,22 +1,22 @@
 -- What the code reads of a statement's operands, one after another, against what their texts say and stand for.
-use Rattle.std.proofs.Common.{◌≡◌, ◌≢◌, ℕ, zero, suc, ◌+◌, ◌-◌, ◌%◌, ◌^◌, ◌<◌, ◌≤◌, ◌⊎◌, inl, inr, min, Bool, true, false, ◌&&◌, ◌||◌, cond, eqb, ltb, leb, not, List, [], ◌∷◌, ◌++◌, length, map, replicate, Option, Some, None, is_none, slice_get, codes, refl, sym, ap, ◌∙◌, subst, arith}
+use Rattle.std.proofs.Common.{◌≡◌, ℕ, zero, suc, ◌-◌, ◌%◌, ◌^◌, ◌<◌, ◌≤◌, ◌⊎◌, inl, inr, min, Bool, true, false, ◌||◌, cond, ltb, leb, List, [], ◌∷◌, length, map, Option, Some, None, is_none, slice_get, refl, sym, ap, ◌∙◌, subst, arith}
 use Rattle.std.specs.Prelude.{unwrap_or}
-use Rattle.std.specs.List.{list_all, list_any, AllByRecursion}
+use Rattle.std.specs.List.{list_any}
 use Rattle.std.specs.Option.{option_map}
-use Rattle.std.proofs.lemmas.Bool.{and_parts, and_from, or_cases, ltb-true, lt-ltb, ltb-false, le-ltb, leb-true, le-leb, leb-false, lt-leb, eqb-true, eqb-false, ne_eqb, both_ways}
-use Rattle.std.proofs.lemmas.Option.{same_Some, slice_get_within}
+use Rattle.std.proofs.lemmas.Bool.{or_cases, ltb-true, lt-ltb, ltb-false, le-ltb, leb-true, leb-false, lt-leb}
+use Rattle.std.proofs.lemmas.Option.{same_Some}
 use Rattle.align_base.specs.declared.op.Op.{Op}
 use Rattle.insn_table.specs.declared.insn.Operand.{Operand}
-use Rattle.insn_table.specs.declared.insn.Operand.TheVariants.{Imm, Target, Nothing}
+use Rattle.insn_table.specs.declared.insn.Operand.TheVariants.{Target}
 use Rattle.text_lines.specs.Statements.{FindsTargets}
-use Rattle.text_lines.specs.Words.{IsPadded, trim}
+use Rattle.text_lines.specs.Words.{trim}
 use Rattle.text_lines.proofs.Trimming.{trim-known, trim-only}
-use Rattle.att_statements.specs.Operands.{Written, Immediate, Label, Plain, IsBetween, IsOperandText, IsOperandPart, IsPoolPart}
-use Rattle.att_statements.specs.Statements.{AreWritten, word_of, StandsFor, StandFor, HasPlace, greatest_written, is_movabs, IsWithin, four, HasSuch, HasNoOperands, IsLost}
-use Rattle.att_statements.specs.ReadingOperands.{◌>>=◌, are_none, written_of, is_pool_part}
+use Rattle.att_statements.specs.Operands.{Written, Immediate, Label, Plain, IsOperandPart}
+use Rattle.att_statements.specs.Statements.{AreWritten, word_of, StandsFor, StandFor, HasPlace, greatest_written, is_movabs, IsWithin, four, HasSuch}
+use Rattle.att_statements.specs.ReadingOperands.{◌>>=◌, are_none, written_of}
 use Rattle.att_statements.specs.ReadingStatements.{is_beyond, no_part, part_of, part_in, next_part, parts_in, gathered, four_in}
 use Rattle.att_statements.specs.declared.part.Part.{Part}
-use Rattle.att_statements.proofs.NumberTexts.{bind_some, map_some}
+use Rattle.att_statements.proofs.NumberTexts.{map_some}
 use Rattle.att_statements.proofs.WrittenTexts.{capped, written-known, written-only}
 
 -- something of a list

@@ -1,9 +1,9 @@
 -- What the code reads of statements, against what statements are and what may be wrong with them.
-use Rattle.std.proofs.Common.{◌≡◌, ◌≢◌, ℕ, ◌+◌, ◌-◌, ◌<◌, ◌≤◌, ◌⊎◌, inl, inr, Bool, true, false, ◌&&◌, ◌||◌, cond, zero, suc, List, [], ◌∷◌, length, map, Option, Some, None, Result, Ok, Err, slice_get, codes, refl, sym, ap, ◌∙◌, subst, arith}
-use Rattle.std.specs.List.{list_all, list_any, find, AllByRecursion}
+use Rattle.std.proofs.Common.{◌≡◌, ℕ, ◌≤◌, ◌⊎◌, inl, inr, Bool, true, false, ◌||◌, cond, zero, suc, List, [], ◌∷◌, length, map, Option, Some, None, Result, Ok, Err, slice_get, codes, refl, sym, ap, ◌∙◌, subst, arith}
+use Rattle.std.specs.List.{list_all, list_any, AllByRecursion}
 use Rattle.std.specs.Option.{option_map}
 use Rattle.std.specs.Str.{bytes_eq}
-use Rattle.std.proofs.lemmas.Bool.{and_parts, and_from, or_parts, both_ways}
+use Rattle.std.proofs.lemmas.Bool.{and_parts, or_parts, both_ways}
 use Rattle.std.proofs.lemmas.Option.{same_Some}
 use Rattle.std.proofs.lemmas.Slice.Eq.{bytes_eq-Decides}
 use Rattle.align_base.specs.declared.op.Op.{Op}
@@ -21,8 +21,8 @@ use Rattle.text_lines.specs.Statements.{FindsTargets, IsStatement, Reads}
 use Rattle.text_lines.specs.declared.refusal.ReadKind.{ReadKind}
 use Rattle.text_lines.specs.declared.refusal.ReadKind.TheVariants.{UnknownInstruction, PoolRefused, BadOperand, BadNumber, UnknownLabel}
 use Rattle.text_lines.proofs.Trimming.{word-known, word-only, trim-known, trim-only}
-use Rattle.att_statements.specs.Operands.{Written, Immediate, Label, Plain, AreParts, IsOperandPart, IsPoolPart}
-use Rattle.att_statements.specs.Statements.{LeadsTo, IsRepeatedReturn, IsReadAs, AreOperands, HasParts, AreWritten, StandFor, HasPlace, IsWithin, four, IsMade, IsInsnText, HasSuch, IsMisfit, HasWideNumber, HasNoOperands, IsLost, IsBadStatement}
+use Rattle.att_statements.specs.Operands.{Written, Immediate, Label, Plain, IsOperandPart, IsPoolPart}
+use Rattle.att_statements.specs.Statements.{LeadsTo, IsRepeatedReturn, IsReadAs, AreOperands, HasParts, AreWritten, HasPlace, IsWithin, four, IsMade, IsInsnText, HasSuch, IsMisfit, IsLost, IsBadStatement}
 use Rattle.att_statements.specs.ReadingOperands.{parts_from, is_pool_part}
 use Rattle.att_statements.specs.ReadingStatements as reading
 use Rattle.att_statements.specs.ReadingStatements.{is_repeated_return, shown_of, operands_of, part_of, parts_in, no_part, gathered, four_in, fitted_by, insn_with, insn_by, statement_of}

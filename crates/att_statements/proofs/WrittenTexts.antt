@@ -1,21 +1,19 @@
 -- What the code reads of operands, against what operands' texts say.
-use Rattle.std.proofs.Common.{◌≡◌, ◌≢◌, ℕ, ◌+◌, ◌-◌, ◌^◌, ◌<◌, ◌≤◌, ◌⊎◌, inl, inr, min, Bool, true, false, ◌&&◌, ◌||◌, cond, eqb, ltb, leb, not, ℤ, List, [], ◌∷◌, ◌++◌, length, Option, Some, None, is_some, slice_get, codes, refl, sym, ap, ◌∙◌, subst, arith, append-nil}
+use Rattle.std.proofs.Common.{◌≡◌, ℕ, ◌-◌, ◌^◌, ◌≤◌, ◌⊎◌, inl, inr, min, Bool, true, false, ◌&&◌, ◌||◌, cond, eqb, ltb, leb, not, ℤ, List, [], ◌∷◌, ◌++◌, Option, Some, None, is_some, slice_get, codes, refl, sym, ap, ◌∙◌, subst, arith, append-nil}
 use Rattle.std.specs.List.{list_all}
-use Rattle.std.specs.Option.{option_map}
 use Rattle.std.specs.Str.{bytes_eq}
 use Rattle.std.proofs.lemmas.Bool.{and_parts, and_from, or_cases, eqb-true, ne_eqb, leb-true, lt-leb, ltb-true, both_ways}
 use Rattle.std.proofs.lemmas.Option.{same_Some}
 use Rattle.std.proofs.lemmas.Slice.Eq.{bytes_eq-Decides}
 use Rattle.insn_table.specs.declared.insn.Operand.{Operand}
-use Rattle.insn_table.specs.declared.insn.Operand.TheVariants.{Reg}
 use Rattle.text_lines.specs.Bytes.{is_name_start, is_name_byte}
 use Rattle.text_lines.specs.Words.{IsName, is_name, IsPadded, prefix_of, behind_prefix, trim}
 use Rattle.text_lines.proofs.Prefixes.{prefix-whole}
 use Rattle.text_lines.proofs.Trimming.{trim-known, trim-only, prefix-only}
 use Rattle.text_lines.proofs.LineItems.{name-known, name-only, name-bytes}
-use Rattle.att_statements.specs.Operands.{Written, Immediate, Label, Plain, digit_value, AreDigits, IsDecimal, IsHexadecimal, IsAmount, IsNumber, IsDisplacement, register_names, IsRegisterText, IsParenthesised, IsMemoryText, IsSymbol, IsPoolText, IsNumeral, IsLabelText, IsOperandText, IsOperandPart, IsPoolPart}
-use Rattle.att_statements.specs.ReadingOperands.{◌>>=◌, after_byte, digits_of, decimal_of, number_of, register_named, memory_of, parenthesised, is_offset, is_symbol, is_relative, is_pool_part, label_of, dollar_by, bare_by, written_by, written_of}
-use Rattle.att_statements.proofs.NumberTexts.{chosen_then, chosen_else, bind_some, map_some, never-some, after_byte-known, heads, are_digits, digits-known, digits-only, decimal-known, decimal-only, number-known, number-only}
+use Rattle.att_statements.specs.Operands.{Written, Immediate, Label, Plain, digit_value, IsAmount, IsNumber, IsDisplacement, register_names, IsMemoryText, IsSymbol, IsPoolText, IsNumeral, IsLabelText, IsOperandText, IsOperandPart, IsPoolPart}
+use Rattle.att_statements.specs.ReadingOperands.{after_byte, digits_of, decimal_of, number_of, register_named, memory_of, parenthesised, is_offset, is_symbol, is_relative, is_pool_part, label_of, dollar_by, bare_by, written_by, written_of}
+use Rattle.att_statements.proofs.NumberTexts.{chosen_then, map_some, never-some, after_byte-known, heads, are_digits, digits-known, digits-only, decimal-known, decimal-only, number-known, number-only}
 use Rattle.att_statements.proofs.RegisterTexts.{all-names, register-known, register-only}
 use Rattle.att_statements.proofs.PartTexts.{lacks, tails, parenthesised-known, parenthesised-only, parenthesised-none}
 use Rattle.att_statements.proofs.MemoryTexts.{memory-known, memory-only}

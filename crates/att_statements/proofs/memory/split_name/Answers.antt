@@ -1,4 +1,4 @@
-use Rattle.std.proofs.Common.{◌∙◌, sym, ◌≡◌}
+use Rattle.std.proofs.Common.{◌∙◌, sym}
 use Rattle.text_lines.specs.Bytes.{is_name_byte}
 use Rattle.text_lines.proofs.Prefixes.{cut-passes, cut-fails, cut-ends, all-behind}
 use Rattle.att_statements.proofs.memory.split_name.Goals as goal
