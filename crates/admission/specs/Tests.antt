@@ -1,5 +1,5 @@
 -- The tests of the code, as functions to truth values.
-use Rattle.std.specs.Prelude.{ℕ, ◌+◌, ◌-◌, ◌%◌, ◌^◌, Bool, false, not, ◌&&◌, ◌||◌, ◌==◌, nat_lt, nat_le, List, Some, None, Option, slice_get, slice_index}
+use Rattle.std.specs.Prelude.{ℕ, ◌+◌, ◌-◌, ◌%◌, ◌^◌, Bool, false, not, ◌&&◌, ◌||◌, ◌==◌, nat_lt, nat_le, List, Some, Option, slice_get, slice_index}
 use Rattle.std.specs.List.{list_all}
 use Rattle.machine.specs.declared.state.Region.{Region}
 use Rattle.machine.specs.Machine.{offset_from}
