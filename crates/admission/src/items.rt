@@ -1,7 +1,8 @@
 //! Lists that contracts see as lists.
 ghost use Rattle.std.specs.Prelude.{◌≡◌, ◌==◌, [], ◌∷◌, ◌++◌, length, OnOk, OnErr};
 
-use std::alloc::{AllocError, Global};
+use align_base::Memory;
+use std::alloc::Global;
 use std::marker::Model;
 
 /// A list, which contracts see as a list.
@@ -59,11 +60,13 @@ impl<T> Items<T> {
 
 impl<T: Drop> Items<T> {
     /// One item more, at the end.
-    pub fn push(&mut self, item: T) -> Result<(), AllocError>
+    pub fn push(&mut self, item: T) -> Result<(), Memory>
         ensures ok { OnOk result (self.new ≡ self.old ++ item ∷ []) }
         ensures err { OnErr result (self.new ≡ self.old) }
     {
-        self.kept.push(item)?;
-        Ok(())
+        match self.kept.push(item) {
+            Ok(()) => Ok(()),
+            Err(_) => Err(Memory),
+        }
     }
 }

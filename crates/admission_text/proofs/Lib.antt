@@ -1,0 +1,10 @@
+pub mod Pieces
+pub mod TextParts
+pub mod Decimals
+pub mod Numbers
+pub mod Registers
+pub mod Terms
+pub mod EntryTexts
+pub mod LoopSteps
+pub mod Drafts
+pub mod WholeTexts
