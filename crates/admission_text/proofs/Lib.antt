@@ -6,5 +6,6 @@ pub mod Registers
 pub mod Terms
 pub mod EntryTexts
 pub mod LoopSteps
+pub mod LineSteps
 pub mod Drafts
 pub mod WholeTexts

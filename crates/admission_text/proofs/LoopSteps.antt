@@ -3,14 +3,7 @@ use Rattle.std.proofs.Common.{◌≡◌, ℕ, suc, ◌+◌, ◌-◌, ◌<◌, �
 use Rattle.align_base.specs.declared.output.Output.{Output}
 use Rattle.admission.specs.declared.expr.Term.{Term}
 use Rattle.admission.specs.declared.expr.Expr.{Expr}
-use Rattle.admission_text.specs.declared.entry.Draft.{Draft}
-use Rattle.admission_text.specs.declared.refusal.AdmitRefusal.{AdmitRefusal}
-use Rattle.admission_text.specs.declared.refusal.AdmitRefusal.TheVariants.{BadLine, TooMany, NoLive, Memory}
-use Rattle.admission_text.specs.Refusals.{Gives}
-use Rattle.admission_text.specs.Grammar.{parts}
 use Rattle.admission_text.specs.Reading.{◌>>=◌, cut_sign, expr_of, first_part, output_of, outputs_of, parts_left, term_of, terms_by, terms_of}
-use Rattle.admission_text.specs.ReadingLines.{behind_line, behind_lines, next_line, no_draft}
-use Rattle.align_base.specs.Firsts as firsts
 use Rattle.admission_text.proofs.Pieces.{before_those, left_size}
 use Rattle.admission_text.proofs.TextParts.{left-shorter, parts-first}
 
@@ -23,13 +16,20 @@ length-more xs kept x is = ap length is ∙ length-append xs (x ∷ [])
 
 -- terms
 
+terms-suc : (left : ℕ) (minus : Bool) (text : List ℕ) → terms_of (suc left) minus text ≡ terms_by (cut_sign text) minus text (terms_of left)
+unfolding terms_of
+terms-suc left minus text = refl
+
+terms-zero : (minus : Bool) (text : List ℕ) → terms_of 0 minus text ≡ None
+unfolding terms_of
+terms-zero minus text = refl
+
 module _ (text rest : List ℕ) (minus : Bool) (terms : List Term) (so_far : terms_of 8 false text ≡ before_those terms (terms_of (8 - length terms) minus rest)) where
   term-left : (r : Option (List ℕ × Bool × List ℕ)) → length terms < 8 → cut_sign rest ≡ r
       → terms_of 8 false text ≡ before_those terms (terms_by r minus rest (terms_of (8 - (length terms + 1))))
-  unfolding terms_of
   term-left r more cut =
       let one : 8 - length terms ≡ suc (8 - (length terms + 1)) = omega arith in
-      so_far ∙ ap (λ (n : ℕ). before_those terms (terms_of n minus rest)) one
+      so_far ∙ ap (λ (n : ℕ). before_those terms (terms_of n minus rest)) one ∙ ap (before_those terms) (terms-suc (8 - (length terms + 1)) minus rest)
       ∙ ap (λ (o : Option (List ℕ × Bool × List ℕ)). before_those terms (terms_by o minus rest (terms_of (8 - (length terms + 1))))) cut
 
   -- a last term that is none
@@ -61,10 +61,11 @@ module _ (text rest : List ℕ) (minus : Bool) (terms : List Term) (so_far : ter
 
   -- eight terms, and more behind them
   pub too-many : 8 ≤ length terms → None ≡ expr_of text
-  unfolding expr_of terms_of
+  unfolding expr_of
   too-many full =
       let none : 8 - length terms ≡ 0 = omega arith in
-      let whole : terms_of 8 false text ≡ None = so_far ∙ ap (λ (n : ℕ). before_those terms (terms_of n minus rest)) none in
+      let whole : terms_of 8 false text ≡ None =
+      so_far ∙ ap (λ (n : ℕ). before_those terms (terms_of n minus rest)) none ∙ ap (before_those terms) (terms-zero minus rest) in
       rw whole refl
 
 -- outputs
@@ -99,38 +100,3 @@ pub left-less : (byte : ℕ) (left more : Option (List ℕ)) (text part : List �
 left-less byte left more text part is first =
     subst (λ (o : Option (List ℕ)). left_size more < left_size o) (sym is)
     (subst (λ (f : List ℕ × Option (List ℕ)). left_size f.1 < length text + 1) (sym first) (left-shorter byte text))
-
--- lines
-
-module _ (left : Option (List ℕ)) (number : ℕ) (d : Draft) (text : List ℕ)
-    (so_far : behind_lines 0 no_draft (parts 10 text) ≡ behind_lines number d (parts_left 10 left)) where
-  line-left : (rest line : List ℕ) (more : Option (List ℕ)) (next : ℕ) → left ≡ Some rest → (line, more) ≡ first_part 10 rest → next ≡ next_line number
-      → behind_lines 0 no_draft (parts 10 text) ≡ firsts.◌>>=◌ (behind_line next d line) (λ e. behind_lines next e (parts_left 10 more))
-  unfolding behind_lines
-  line-left rest line more next is first counted =
-      so_far ∙ ap (λ (o : Option (List ℕ)). behind_lines number d (parts_left 10 o)) is
-      ∙ ap (λ (ls : List (List ℕ)). behind_lines number d ls) (parts-first 10 rest)
-      ∙ ap (λ (f : List ℕ × Option (List ℕ)). behind_lines number d (f.0 ∷ parts_left 10 f.1)) (sym first)
-      ∙ ap (λ (n : ℕ). firsts.◌>>=◌ (behind_line n d line) (λ e. behind_lines n e (parts_left 10 more))) (sym counted)
-
-  pub line-some : (rest line : List ℕ) (more : Option (List ℕ)) (next : ℕ) (e : Draft) → left ≡ Some rest → (line, more) ≡ first_part 10 rest → next ≡ next_line number
-      → behind_line next d line ≡ Ok e → behind_lines 0 no_draft (parts 10 text) ≡ behind_lines next e (parts_left 10 more)
-  line-some rest line more next e is first counted read =
-      line-left rest line more next is first counted ∙ ap (λ (r : Result Draft AdmitRefusal). firsts.◌>>=◌ r (λ f. behind_lines next f (parts_left 10 more))) read
-
-  line-err : (rest line : List ℕ) (more : Option (List ℕ)) (next : ℕ) (e : AdmitRefusal) → left ≡ Some rest → (line, more) ≡ first_part 10 rest → next ≡ next_line number
-      → behind_line next d line ≡ Err e → behind_lines 0 no_draft (parts 10 text) ≡ Err e
-  line-err rest line more next e is first counted read =
-      line-left rest line more next is first counted ∙ ap (λ (r : Result Draft AdmitRefusal). firsts.◌>>=◌ r (λ f. behind_lines next f (parts_left 10 more))) read
-
-  -- a line that is refused is the answer
-  pub line-stop : (rest line : List ℕ) (more : Option (List ℕ)) (next : ℕ) (e : AdmitRefusal) → left ≡ Some rest → (line, more) ≡ first_part 10 rest → next ≡ next_line number
-      → Gives {A = Draft} (Err e) (behind_line next d line) → Gives {A = Draft} (Err e) (behind_lines 0 no_draft (parts 10 text))
-  line-stop rest line more next (BadLine n) is first counted gives = line-err rest line more next (BadLine n) is first counted gives
-  line-stop rest line more next (TooMany n) is first counted gives = line-err rest line more next (TooMany n) is first counted gives
-  line-stop rest line more next NoLive is first counted gives = line-err rest line more next NoLive is first counted gives
-  line-stop rest line more next Memory is first counted gives = tt
-
-  pub line-end : left ≡ None → behind_lines 0 no_draft (parts 10 text) ≡ Ok d
-  unfolding behind_lines
-  line-end is = so_far ∙ ap (λ (o : Option (List ℕ)). behind_lines number d (parts_left 10 o)) is

@@ -4,6 +4,7 @@ use Rattle.std.specs.List.{list_all, list_any, AllZip}
 use Rattle.std.specs.Option.{option_or}
 use Rattle.std.specs.Str.{bytes_eq}
 use Rattle.std.proofs.lemmas.Bool.{and_parts, eqb-true, not-true}
+use Rattle.std.proofs.lemmas.Option.{same_Some}
 use Rattle.std.proofs.lemmas.Slice.Eq.{bytes_eq-Decides}
 use Rattle.align_base.specs.declared.output.Output.{Output}
 use Rattle.align_base.specs.declared.output.Output.TheVariants.{Reg, Vec}
@@ -77,17 +78,37 @@ are_distinct table other = list_all (λ x. list_all (λ y. not (bytes_eq x y)) o
 place-other : (table other : List (List ℕ)) (j : ℕ) (name : List ℕ) → are_distinct table other ≡ true → slice_get table j ≡ Some name → place_from 0 other name ≡ None
 place-other table other j name distinct there = place-none other 0 name (list_all-at (λ x. list_all (λ y. not (bytes_eq x y)) other) table j name distinct there)
 
+number-found : (w : ℕ) (name : List ℕ) (n : ℕ) → general_number w name ≡ Some n → slice_get (general_names w) n ≡ Some name
+unfolding general_number
+number-found w name n h = place-found (general_names w) name n h
+
+number-at : (w : ℕ) (name : List ℕ) (n : ℕ) → are_apart (general_names w) ≡ true → slice_get (general_names w) n ≡ Some name → general_number w name ≡ Some n
+unfolding general_number
+number-at w name n apart there = place-at (general_names w) n name apart there
+
+number-other : (v w : ℕ) (name : List ℕ) (n : ℕ) → are_distinct (general_names w) (general_names v) ≡ true → slice_get (general_names w) n ≡ Some name → general_number v name ≡ None
+unfolding general_number
+number-other v w name n distinct there = place-other (general_names w) (general_names v) n name distinct there
+
+numeral-found : (name : List ℕ) (n : ℕ) → numeral_number name ≡ Some n → slice_get numerals n ≡ Some name
+unfolding numeral_number
+numeral-found name n h = place-found numerals name n h
+
+numeral-at : (name : List ℕ) (n : ℕ) → slice_get numerals n ≡ Some name → numeral_number name ≡ Some n
+unfolding numeral_number
+numeral-at name n there = place-at numerals n name refl there
+
 -- registers of 64 bits
 
 pub register-known : (text : List ℕ) (n : ℕ) → register_of text ≡ Some n → IsGeneral text n 64
-unfolding register_of general_number
+unfolding register_of
 register-known text n h =
-    let name = bind-some (after_byte 37 text) (λ name. place_from 0 names_64 name) n h in
-    (name.0, place-found names_64 name.0 n name.2, after_byte-known 37 text name.0 name.1)
+    let name = bind-some (after_byte 37 text) (general_number 64) n h in
+    (name.0, number-found 64 name.0 n name.2, after_byte-known 37 text name.0 name.1)
 
 pub register-only : (text : List ℕ) (n : ℕ) → IsGeneral text n 64 → register_of text ≡ Some n
-unfolding register_of general_number after_byte
-register-only text n is = rw (is.2) (place-at names_64 n is.0 refl is.1)
+unfolding register_of after_byte
+register-only text n is = rw (is.2) (number-at 64 is.0 n refl is.1)
 
 -- outputs
 
@@ -96,25 +117,25 @@ either-known None b y h = inr h
 either-known (Some x) b y h = inl h
 
 general-known : (w : ℕ) (text name : List ℕ) (o : Output) → text ≡ codes "%" ++ name → general_output w name ≡ Some o → IsOutputText text o
-unfolding general_output general_number
+unfolding general_output
 general-known w text name o spelled h =
-    let n = bind-some (place_from 0 (general_names w) name) (λ (n : ℕ). Some (Reg n w)) o h in
-    let means : Reg n.0 w ≡ o = cc in
-    subst (λ (x : Output). IsOutputText text x) means (name, place-found (general_names w) name n.0 n.1, spelled)
+    let n = bind-some (general_number w name) (λ (n : ℕ). Some (Reg n w)) o h in
+    let means : Reg n.0 w ≡ o = same_Some (Reg n.0 w) o n.2 in
+    subst (λ (x : Output). IsOutputText text x) means (name, number-found w name n.0 n.1, spelled)
 
 vector-known : (letter w : ℕ) (text name : List ℕ) (o : Output) → IsVectorPrefix (letter ∷ 109 ∷ 109 ∷ []) w → text ≡ codes "%" ++ name → vector_output letter w name ≡ Some o
     → IsOutputText text o
-unfolding vector_output numeral_number
+unfolding vector_output
 vector-known letter w text name o prefix spelled h =
-    let a = bind-some (after_byte letter name) (λ behind. after_byte 109 behind >>= λ more. (after_byte 109 more >>= λ numeral. (place_from 0 numerals numeral >>= λ (n : ℕ). Some (Vec n w)))) o h in
-    let b = bind-some (after_byte 109 a.0) (λ more. after_byte 109 more >>= λ numeral. (place_from 0 numerals numeral >>= λ (n : ℕ). Some (Vec n w))) o a.2 in
-    let c = bind-some (after_byte 109 b.0) (λ numeral. place_from 0 numerals numeral >>= λ (n : ℕ). Some (Vec n w)) o b.2 in
-    let d = bind-some (place_from 0 numerals c.0) (λ (n : ℕ). Some (Vec n w)) o c.2 in
-    let means : Vec d.0 w ≡ o = cc in
+    let a = bind-some (after_byte letter name) (λ behind. after_byte 109 behind >>= λ more. (after_byte 109 more >>= λ numeral. (numeral_number numeral >>= λ (n : ℕ). Some (Vec n w)))) o h in
+    let b = bind-some (after_byte 109 a.0) (λ more. after_byte 109 more >>= λ numeral. (numeral_number numeral >>= λ (n : ℕ). Some (Vec n w))) o a.2 in
+    let c = bind-some (after_byte 109 b.0) (λ numeral. numeral_number numeral >>= λ (n : ℕ). Some (Vec n w)) o b.2 in
+    let d = bind-some (numeral_number c.0) (λ (n : ℕ). Some (Vec n w)) o c.2 in
+    let means : Vec d.0 w ≡ o = same_Some (Vec d.0 w) o d.2 in
     let whole : name ≡ letter ∷ 109 ∷ 109 ∷ c.0 =
     after_byte-known letter name a.0 a.1 ∙ ap (λ (x : List ℕ). letter ∷ x) (after_byte-known 109 a.0 b.0 b.1 ∙ ap (λ (x : List ℕ). 109 ∷ x) (after_byte-known 109 b.0 c.0 c.1)) in
     subst (λ (x : Output). IsOutputText text x) means
-    (letter ∷ 109 ∷ 109 ∷ [], c.0, prefix, place-found numerals c.0 d.0 d.1, spelled ∙ ap (λ (x : List ℕ). 37 ∷ x) whole)
+    (letter ∷ 109 ∷ 109 ∷ [], c.0, prefix, numeral-found c.0 d.0 d.1, spelled ∙ ap (λ (x : List ℕ). 37 ∷ x) whole)
 
 named-known : (text name : List ℕ) (o : Output) → text ≡ codes "%" ++ name → output_named name ≡ Some o → IsOutputText text o
 unfolding output_named
@@ -149,12 +170,12 @@ output-known text o h =
     named-known text name.0 o (after_byte-known 37 text name.0 name.1) name.2
 
 general-by : (w : ℕ) (name : List ℕ) (n : ℕ) → are_apart (general_names w) ≡ true → slice_get (general_names w) n ≡ Some name → general_output w name ≡ Some (Reg n w)
-unfolding general_output general_number
-general-by w name n apart there = rw (place-at (general_names w) n name apart there) refl
+unfolding general_output
+general-by w name n apart there = let found = number-at w name n apart there in rw found refl
 
 general-other : (v w : ℕ) (name : List ℕ) (n : ℕ) → are_distinct (general_names w) (general_names v) ≡ true → slice_get (general_names w) n ≡ Some name → general_output v name ≡ None
-unfolding general_output general_number
-general-other v w name n distinct there = rw (place-other (general_names w) (general_names v) n name distinct there) refl
+unfolding general_output
+general-other v w name n distinct there = let none = number-other v w name n distinct there in rw none refl
 
 named-64 : (name : List ℕ) (n : ℕ) → slice_get names_64 n ≡ Some name → output_named name ≡ Some (Reg n 64)
 unfolding output_named
@@ -190,13 +211,39 @@ named-by name n w false false true d is_a is_b is_c is_d there = named-16 name n
 named-by name n w false false false true is_a is_b is_c is_d there = named-8 name n there ∙ ap (λ (v : ℕ). Some (Reg n v)) (sym (eqb-true w 8 is_d))
 named-by name n w false false false false is_a is_b is_c is_d there = absurd (cc)
 
+-- names that begin with x or y are no general registers
+other-first : (w first : ℕ) (rest : List ℕ) → list_all (λ y. not (bytes_eq (first ∷ rest) y)) (general_names w) ≡ true → general_output w (first ∷ rest) ≡ None
+unfolding general_output general_number
+other-first w first rest none = rw (place-none (general_names w) 0 (first ∷ rest) none) refl
+
+vector-found : (letter w : ℕ) (numeral : List ℕ) (n : ℕ) → eqb letter letter ≡ true → slice_get numerals n ≡ Some numeral → vector_output letter w (letter ∷ 109 ∷ 109 ∷ numeral) ≡ Some (Vec n w)
+unfolding vector_output after_byte
+vector-found letter w numeral n same there = let found = numeral-at numeral n there in rw (same, found) refl
+
+vector-other : (rest : List ℕ) → vector_output 120 128 (121 ∷ rest) ≡ None
+unfolding vector_output after_byte
+vector-other rest = refl
+
 vector-128 : (numeral : List ℕ) (n : ℕ) → slice_get numerals n ≡ Some numeral → output_named (120 ∷ 109 ∷ 109 ∷ numeral) ≡ Some (Vec n 128)
-unfolding output_named general_output general_number vector_output after_byte numeral_number
-vector-128 numeral n there = rw (place-at numerals n numeral refl there) refl
+unfolding output_named
+vector-128 numeral n there =
+    let a = other-first 64 120 (109 ∷ 109 ∷ numeral) refl in
+    let b = other-first 32 120 (109 ∷ 109 ∷ numeral) refl in
+    let c = other-first 16 120 (109 ∷ 109 ∷ numeral) refl in
+    let d = other-first 8 120 (109 ∷ 109 ∷ numeral) refl in
+    let e = vector-found 120 128 numeral n refl there in
+    rw (a, b, c, d, e) refl
 
 vector-256 : (numeral : List ℕ) (n : ℕ) → slice_get numerals n ≡ Some numeral → output_named (121 ∷ 109 ∷ 109 ∷ numeral) ≡ Some (Vec n 256)
-unfolding output_named general_output general_number vector_output after_byte numeral_number
-vector-256 numeral n there = rw (place-at numerals n numeral refl there) refl
+unfolding output_named
+vector-256 numeral n there =
+    let a = other-first 64 121 (109 ∷ 109 ∷ numeral) refl in
+    let b = other-first 32 121 (109 ∷ 109 ∷ numeral) refl in
+    let c = other-first 16 121 (109 ∷ 109 ∷ numeral) refl in
+    let d = other-first 8 121 (109 ∷ 109 ∷ numeral) refl in
+    let x = vector-other (109 ∷ 109 ∷ numeral) in
+    let e = vector-found 121 256 numeral n refl there in
+    rw (a, b, c, d, x, e) refl
 
 vector-by : (prefix numeral : List ℕ) (n w : ℕ) → IsVectorPrefix prefix w → slice_get numerals n ≡ Some numeral → output_named (prefix ++ numeral) ≡ Some (Vec n w)
 vector-by prefix numeral n w (inl p) there =

@@ -210,23 +210,25 @@ joined left minus next text here rest t (u ∷ us) is term more =
       few = omega (arith, more.few);
     }
 
+by_cut : (left : ℕ) → ((minus : Bool) (text : List ℕ) (us : List Term) → terms_of left minus text ≡ Some us → AreRead left minus text us)
+    → (minus : Bool) (text : List ℕ) (ts : List Term) (r : Option (List ℕ × Bool × List ℕ)) → IsSignCut text r → terms_by r minus text (terms_of left) ≡ Some ts
+    → AreRead (suc left) minus text ts
+by_cut left more minus text ts None cut g =
+    let t = bind-some (term_of minus text) (λ (t : Term). Some (t ∷ [])) ts g in
+    let means : t.0 ∷ [] ≡ ts = same_Some (t.0 ∷ []) ts t.2 in
+    let term = term-known minus text t.0 t.1 in
+    subst (AreRead (suc left) minus text) means (record { texts = term.0; sign = term.1; few = omega arith })
+by_cut left more minus text ts (Some found) cut g =
+    let t = bind-some (term_of minus found.0) (λ (t : Term). terms_of left found.1 found.2 >>= λ (us : List Term). Some (t ∷ us)) ts g in
+    let us = bind-some (terms_of left found.1 found.2) (λ (us : List Term). Some (t.0 ∷ us)) ts t.2 in
+    let means : t.0 ∷ us.0 ≡ ts = same_Some (t.0 ∷ us.0) ts us.2 in
+    subst (AreRead (suc left) minus text) means
+    (joined left minus found.1 text found.0 found.2 t.0 us.0 cut (term-known minus found.0 t.0 t.1) (more found.1 found.2 us.0 us.1))
+
 terms-known : (left : ℕ) (minus : Bool) (text : List ℕ) (ts : List Term) → terms_of left minus text ≡ Some ts → AreRead left minus text ts
 unfolding terms_of
 terms-known zero minus text ts h = absurd (cc)
-terms-known (suc left) minus text ts h = by_cut (cut_sign text) (sign-outcome text) h
-  where
-    by_cut : (r : Option (List ℕ × Bool × List ℕ)) → IsSignCut text r → terms_by r minus text (terms_of left) ≡ Some ts → AreRead (suc left) minus text ts
-    by_cut None cut g =
-        let t = bind-some (term_of minus text) (λ (t : Term). Some (t ∷ [])) ts g in
-        let means : t.0 ∷ [] ≡ ts = same_Some (t.0 ∷ []) ts t.2 in
-        let term = term-known minus text t.0 t.1 in
-        subst (AreRead (suc left) minus text) means (record { texts = term.0; sign = term.1; few = omega arith })
-    by_cut (Some found) cut g =
-        let t = bind-some (term_of minus found.0) (λ (t : Term). terms_of left found.1 found.2 >>= λ (us : List Term). Some (t ∷ us)) ts g in
-        let us = bind-some (terms_of left found.1 found.2) (λ (us : List Term). Some (t.0 ∷ us)) ts t.2 in
-        let means : t.0 ∷ us.0 ≡ ts = same_Some (t.0 ∷ us.0) ts us.2 in
-        subst (AreRead (suc left) minus text) means
-        (joined left minus found.1 text found.0 found.2 t.0 us.0 cut (term-known minus found.0 t.0 t.1) (terms-known left found.1 found.2 us.0 us.1))
+terms-known (suc left) minus text ts h = by_cut left (terms-known left) minus text ts (cut_sign text) (sign-outcome text) h
 
 signed-only : (minus : Bool) (text : List ℕ) (t : Term) → IsTermText text t → t.minus ≡ minus → term_of minus text ≡ Some t
 signed-only minus text t is sign = subst (λ (m : Bool). term_of m text ≡ Some t) sign (term-only text t is)
@@ -255,11 +257,14 @@ has-sign : (ts : List Term) → IsFirstAdded ts → HasSign false ts
 has-sign [] h = tt
 has-sign (t ∷ ts) h = h
 
+abbrev expr_with : List Term → Expr
+expr_with ts = record { terms = ts }
+
 pub expr-known : (text : List ℕ) (e : Expr) → expr_of text ≡ Some e → IsExprText text e
 unfolding expr_of
 expr-known text e h =
-    let ts = bind-some (terms_of 8 false text) (λ (ts : List Term). Some (record { terms = ts })) e h in
-    let means : ◌≡◌ {A = Expr} (record { terms = ts.0 }) e = same_Some {A = Expr} (record { terms = ts.0 }) e ts.2 in
+    let ts = bind-some (terms_of 8 false text) (λ (ts : List Term). Some (expr_with ts)) e h in
+    let means : expr_with ts.0 ≡ e = same_Some (expr_with ts.0) e ts.2 in
     let read = terms-known 8 false text ts.0 ts.1 in
     subst (IsExprText text) means (record { terms = read.texts; first = first-added ts.0 read.sign; few = read.few })
 

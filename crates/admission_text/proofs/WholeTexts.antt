@@ -40,12 +40,12 @@ fault-at before l e (inr p) = ap fault_line p.0
 lines-above : (ts : List (List ℕ)) (m : ℕ) (before : List Line) (item : Line) (after : List Line) → lines_from m ts ≡ before ++ item ∷ after → m ≤ item.number
 lines-above [] m [] item after is = absurd (cc)
 lines-above [] m (b ∷ before) item after is = absurd (cc)
-lines-above (t ∷ ts) m before item after is = by_skip (is_skipped t) before is
+lines-above (t ∷ ts) m before item after is = by_skip (λ front. lines-above ts (m + 1) front item after) (is_skipped t) before is
   where
-    by_skip : (skip : Bool) (front : List Line) → cond skip (lines_from (m + 1) ts) (record { number = m; words = parts 32 t } ∷ lines_from (m + 1) ts) ≡ front ++ item ∷ after → m ≤ item.number
-    by_skip true front e = let above = lines-above ts (m + 1) front item after e in omega arith
-    by_skip false [] e = let same : m ≡ item.number = ap (λ (x : Line). x.number) (first-same e) in omega arith
-    by_skip false (b ∷ front) e = let above = lines-above ts (m + 1) front item after (rest-same e) in omega arith
+    by_skip : ((front : List Line) → lines_from (m + 1) ts ≡ front ++ item ∷ after → m + 1 ≤ item.number) → (skip : Bool) (front : List Line) → cond skip (lines_from (m + 1) ts) (record { number = m; words = parts 32 t } ∷ lines_from (m + 1) ts) ≡ front ++ item ∷ after → m ≤ item.number
+    by_skip later true front e = let above = later front e in omega arith
+    by_skip later false [] e = let same : m ≡ item.number = ap (λ (x : Line). x.number) (first-same e) in omega arith
+    by_skip later false (b ∷ front) e = let above = later front (rest-same e) in omega arith
 
 -- so a fault of a line goes before those of later lines
 in-order : (front : List Line) (l : Line) (ts : List (List ℕ)) → ComesFirst IsFault Precedes front l (lines_from (l.number + 1) ts)
@@ -94,30 +94,37 @@ line_at n t = record { number = n; words = parts 32 t }
 some-none : (e : Entry) → ◌≡◌ {A = Option Entry} None (Some e) → ⊥
 some-none e h = cc
 
+abbrev AreOutcomes : List (List ℕ) → ℕ → Type 0
+AreOutcomes ts n = (before : List Line) (d : Draft) → Tells before d → IsOutcome IsFault Precedes IsRead before (lines_from n ts) (read_all n d ts)
+
+over-outcome : (t : List ℕ) (ts : List (List ℕ)) (n : ℕ) → AreOutcomes ts (n + 1) → (before : List Line) (d : Draft) → Tells before d → (e : Entry) (over : Bool) → is_over d e ≡ over
+    → IsEntry before (parts 32 t) e
+    → IsOutcome IsFault Precedes IsRead before (line_at n t ∷ lines_from (n + 1) ts) (cond over (Err (TooMany n)) (read_all (n + 1) (drafted_with d e) ts >>= λ es. Ok (e ∷ es)))
+over-outcome t ts n more before d tells e true is entry =
+    stops before (line_at n t) ts (TooMany n) (inr (refl, sym (over-same before d (parts 32 t) e tells entry) ∙ is)) (over-first before (line_at n t) e entry)
+over-outcome t ts n more before d tells e false is entry =
+    let within : goes_over before (parts 32 t) ≡ false = sym (over-same before d (parts 32 t) e tells entry) ∙ is in
+    outcome-then IsFault Precedes IsRead before (line_at n t) (lines_from (n + 1) ts) (Ok (e ∷ [])) (read_all (n + 1) (drafted_with d e) ts) (in-order before (line_at n t) ts)
+    ((e, refl, entry, within), no-fault before (line_at n t) e entry within)
+    (more (before ++ line_at n t ∷ []) (drafted_with d e) (tells-more before d (line_at n t) e tells entry))
+
+entry-outcome : (t : List ℕ) (ts : List (List ℕ)) (n : ℕ) → AreOutcomes ts (n + 1) → (before : List Line) (d : Draft) → Tells before d → (r : Option Entry) → entry_of d t ≡ r
+    → IsOutcome IsFault Precedes IsRead before (line_at n t ∷ lines_from (n + 1) ts) (entry_then n d r (λ e. read_all (n + 1) (drafted_with d e) ts))
+entry-outcome t ts n more before d tells None is =
+    stops before (line_at n t) ts (BadLine n) (inl (refl, λ entry h. some-none entry (sym is ∙ entry-only before d t entry tells h))) (bad-first before (line_at n t))
+entry-outcome t ts n more before d tells (Some e) is = over-outcome t ts n more before d tells e (is_over d e) refl (entry-known before d t e tells is)
+
+line-outcome : (t : List ℕ) (ts : List (List ℕ)) (n : ℕ) → AreOutcomes ts (n + 1) → (before : List Line) (d : Draft) → Tells before d → (skip : Bool)
+    → IsOutcome IsFault Precedes IsRead before (cond skip (lines_from (n + 1) ts) (line_at n t ∷ lines_from (n + 1) ts))
+      (cond skip (read_all (n + 1) d ts) (entry_then n d (entry_of d t) (λ e. read_all (n + 1) (drafted_with d e) ts)))
+line-outcome t ts n more before d tells true = more before d tells
+line-outcome t ts n more before d tells false = entry-outcome t ts n more before d tells (entry_of d t) refl
+
 -- what reading lines answers is right
 read-outcome : (ts : List (List ℕ)) (n : ℕ) (before : List Line) (d : Draft) → Tells before d → IsOutcome IsFault Precedes IsRead before (lines_from n ts) (read_all n d ts)
 unfolding read_all
 read-outcome [] n before d tells = (refl, λ e h. fault-none IsFault before e h)
-read-outcome (t ∷ ts) n before d tells = by_skip (is_skipped t)
-  where
-    over_by : (e : Entry) (over : Bool) → is_over d e ≡ over → IsEntry before (parts 32 t) e
-        → IsOutcome IsFault Precedes IsRead before (line_at n t ∷ lines_from (n + 1) ts) (cond over (Err (TooMany n)) (read_all (n + 1) (drafted_with d e) ts >>= λ es. Ok (e ∷ es)))
-    over_by e true is entry =
-        stops before (line_at n t) ts (TooMany n) (inr (refl, sym (over-same before d (parts 32 t) e tells entry) ∙ is)) (over-first before (line_at n t) e entry)
-    over_by e false is entry =
-        let within : goes_over before (parts 32 t) ≡ false = sym (over-same before d (parts 32 t) e tells entry) ∙ is in
-        outcome-then IsFault Precedes IsRead before (line_at n t) (lines_from (n + 1) ts) (Ok (e ∷ [])) (read_all (n + 1) (drafted_with d e) ts) (in-order before (line_at n t) ts)
-        ((e, refl, entry, within), no-fault before (line_at n t) e entry within)
-        (read-outcome ts (n + 1) (before ++ line_at n t ∷ []) (drafted_with d e) (tells-more before d (line_at n t) e tells entry))
-    entry_by : (r : Option Entry) → entry_of d t ≡ r
-        → IsOutcome IsFault Precedes IsRead before (line_at n t ∷ lines_from (n + 1) ts) (entry_then n d r (λ e. read_all (n + 1) (drafted_with d e) ts))
-    entry_by None is =
-        stops before (line_at n t) ts (BadLine n) (inl (refl, λ entry h. some-none entry (sym is ∙ entry-only before d t entry tells h))) (bad-first before (line_at n t))
-    entry_by (Some e) is = over_by e (is_over d e) refl (entry-known before d t e tells is)
-    by_skip : (skip : Bool) → IsOutcome IsFault Precedes IsRead before (cond skip (lines_from (n + 1) ts) (line_at n t ∷ lines_from (n + 1) ts))
-        (cond skip (read_all (n + 1) d ts) (entry_then n d (entry_of d t) (λ e. read_all (n + 1) (drafted_with d e) ts)))
-    by_skip true = read-outcome ts (n + 1) before d tells
-    by_skip false = entry_by (entry_of d t) refl
+read-outcome (t ∷ ts) n before d tells = line-outcome t ts n (read-outcome ts (n + 1)) before d tells (is_skipped t)
 
 -- all that is read are the entries of the lines
 all-entries : (ls before : List Line) (es : List Entry) → AreAll IsRead before ls es → AreEntries before ls es
@@ -132,16 +139,17 @@ entries-read : (ts : List (List ℕ)) (n : ℕ) (before : List Line) (d : Draft)
 unfolding read_all
 entries-read [] n before d [] tells are = refl
 entries-read [] n before d (e ∷ es) tells are = absurd are
-entries-read (t ∷ ts) n before d es tells are = by_skip (is_skipped t) es are
+entries-read (t ∷ ts) n before d es tells are = by_skip (entries-read ts (n + 1)) (is_skipped t) es are
   where
-    by_skip : (skip : Bool) (all : List Entry) → AreEntries before (cond skip (lines_from (n + 1) ts) (line_at n t ∷ lines_from (n + 1) ts)) all
+    by_skip : ((front : List Line) (x : Draft) (more : List Entry) → Tells front x → AreEntries front (lines_from (n + 1) ts) more → read_all (n + 1) x ts ≡ Ok more)
+        → (skip : Bool) (all : List Entry) → AreEntries before (cond skip (lines_from (n + 1) ts) (line_at n t ∷ lines_from (n + 1) ts)) all
         → cond skip (read_all (n + 1) d ts) (entry_then n d (entry_of d t) (λ e. read_all (n + 1) (drafted_with d e) ts)) ≡ Ok all
-    by_skip true all h = entries-read ts (n + 1) before d all tells h
-    by_skip false [] h = absurd h
-    by_skip false (e ∷ more) h =
+    by_skip later true all h = later before d all tells h
+    by_skip later false [] h = absurd h
+    by_skip later false (e ∷ more) h =
         let found = entry-only before d t e tells h.0 in
         let within : is_over d e ≡ false = over-same before d (parts 32 t) e tells h.0 ∙ h.1 in
-        let rest = entries-read ts (n + 1) (before ++ line_at n t ∷ []) (drafted_with d e) more (tells-more before d (line_at n t) e tells h.0) h.2 in
+        let rest = later (before ++ line_at n t ∷ []) (drafted_with d e) more (tells-more before d (line_at n t) e tells h.0) h.2 in
         rw (found, within, rest) refl
 
 -- the draft that entries make
@@ -180,24 +188,31 @@ told-cons d e (Err x) = refl
 next-number : (n : ℕ) → next_line (line_number n) ≡ line_number (n + 1)
 next-number n = omega arith
 
+abbrev AreTold : List (List ℕ) → ℕ → Type 0
+AreTold ts n = (d : Draft) → behind_lines (line_number n) d ts ≡ told d (read_all (n + 1) d ts)
+
+behind-over : (ts : List (List ℕ)) (n : ℕ) (d : Draft) → AreTold ts (n + 1) → (e : Entry) (over : Bool)
+    → ((cond over (Err (TooMany (line_number (n + 1)))) (Ok (drafted_with d e))) >>= λ x. behind_lines (line_number (n + 1)) x ts)
+    ≡ told d (cond over (Err (TooMany (n + 1))) (read_all (n + 1 + 1) (drafted_with d e) ts >>= λ es. Ok (e ∷ es)))
+behind-over ts n d more e true = refl
+behind-over ts n d more e false = more (drafted_with d e) ∙ sym (told-cons d e (read_all (n + 1 + 1) (drafted_with d e) ts))
+
+behind-entry : (ts : List (List ℕ)) (n : ℕ) (d : Draft) → AreTold ts (n + 1) → (r : Option Entry)
+    → (judged (line_number (n + 1)) d r >>= λ x. behind_lines (line_number (n + 1)) x ts) ≡ told d (entry_then (n + 1) d r (λ e. read_all (n + 1 + 1) (drafted_with d e) ts))
+behind-entry ts n d more None = refl
+behind-entry ts n d more (Some e) = behind-over ts n d more e (is_over d e)
+
+behind-skip : (t : List ℕ) (ts : List (List ℕ)) (n : ℕ) (d : Draft) → AreTold ts (n + 1) → (skip : Bool)
+    → ((cond skip (Ok d) (judged (line_number (n + 1)) d (entry_of d t))) >>= λ x. behind_lines (line_number (n + 1)) x ts)
+    ≡ told d (cond skip (read_all (n + 1 + 1) d ts) (entry_then (n + 1) d (entry_of d t) (λ e. read_all (n + 1 + 1) (drafted_with d e) ts)))
+behind-skip t ts n d more true = more d
+behind-skip t ts n d more false = behind-entry ts n d more (entry_of d t)
+
 behind-all : (ts : List (List ℕ)) (n : ℕ) (d : Draft) → behind_lines (line_number n) d ts ≡ told d (read_all (n + 1) d ts)
 unfolding behind_lines behind_line read_all
 behind-all [] n d = refl
 behind-all (t ∷ ts) n d =
-    ap (λ (k : ℕ). behind_line k d t >>= λ e. behind_lines k e ts) (next-number n) ∙ by_skip (is_skipped t)
-  where
-    over_by : (e : Entry) (over : Bool) → ((cond over (Err (TooMany (line_number (n + 1)))) (Ok (drafted_with d e))) >>= λ x. behind_lines (line_number (n + 1)) x ts)
-        ≡ told d (cond over (Err (TooMany (n + 1))) (read_all (n + 1 + 1) (drafted_with d e) ts >>= λ es. Ok (e ∷ es)))
-    over_by e true = refl
-    over_by e false = behind-all ts (n + 1) (drafted_with d e) ∙ sym (told-cons d e (read_all (n + 1 + 1) (drafted_with d e) ts))
-    entry_by : (r : Option Entry) → (judged (line_number (n + 1)) d r >>= λ x. behind_lines (line_number (n + 1)) x ts)
-        ≡ told d (entry_then (n + 1) d r (λ e. read_all (n + 1 + 1) (drafted_with d e) ts))
-    entry_by None = refl
-    entry_by (Some e) = over_by e (is_over d e)
-    by_skip : (skip : Bool) → ((cond skip (Ok d) (judged (line_number (n + 1)) d (entry_of d t))) >>= λ x. behind_lines (line_number (n + 1)) x ts)
-        ≡ told d (cond skip (read_all (n + 1 + 1) d ts) (entry_then (n + 1) d (entry_of d t) (λ e. read_all (n + 1 + 1) (drafted_with d e) ts)))
-    by_skip true = behind-all ts (n + 1) d
-    by_skip false = entry_by (entry_of d t)
+    ap (λ (k : ℕ). behind_line k d t >>= λ e. behind_lines k e ts) (next-number n) ∙ behind-skip t ts n d (behind-all ts (n + 1)) (is_skipped t)
 
 -- the whole
 
@@ -260,17 +275,20 @@ bad-many m n (inl a) (inr b) = omega (arith, b.0)
 bad-many m n (inr a) (inl b) = omega (arith, a.0)
 bad-many m n (inr a) (inr b) = omega (arith, b.1)
 
+carried : (a b x y : AdmitRefusal) → a ≡ x → b ≡ y → Precedes a b → Precedes x y
+carried a b x y p q h = subst (λ (u : AdmitRefusal). Precedes u y) p (subst (λ (v : AdmitRefusal). Precedes a v) q h)
+
 fault-same : (front : List Line) (ls : List Line) (a b : AdmitRefusal) → HasFault IsFault front ls a → HasFault IsFault front ls b → Precedes a b → Precedes b a → a ≡ b
 fault-same front ls a b x y one two = by_cases x.wrong y.wrong
   where
     by_cases : IsFault (front ++ x.before) x.item a → IsFault (front ++ y.before) y.item b → a ≡ b
     by_cases (inl p) (inl q) =
-        let same = bad-bad x.item.number y.item.number (rw (← p.0, ← q.0) one) (rw (← p.0, ← q.0) two) in
+        let same = bad-bad x.item.number y.item.number (carried a b _ _ p.0 q.0 one) (carried b a _ _ q.0 p.0 two) in
         p.0 ∙ ap (λ (n : ℕ). BadLine n) same ∙ sym q.0
-    by_cases (inl p) (inr q) = absurd (bad-many x.item.number y.item.number (rw (← p.0, ← q.0) one) (rw (← p.0, ← q.0) two))
-    by_cases (inr p) (inl q) = absurd (bad-many y.item.number x.item.number (rw (← p.0, ← q.0) two) (rw (← p.0, ← q.0) one))
+    by_cases (inl p) (inr q) = absurd (bad-many x.item.number y.item.number (carried a b _ _ p.0 q.0 one) (carried b a _ _ q.0 p.0 two))
+    by_cases (inr p) (inl q) = absurd (bad-many y.item.number x.item.number (carried b a _ _ q.0 p.0 two) (carried a b _ _ p.0 q.0 one))
     by_cases (inr p) (inr q) =
-        let same = many-many x.item.number y.item.number (rw (← p.0, ← q.0) one) (rw (← p.0, ← q.0) two) in
+        let same = many-many x.item.number y.item.number (carried a b _ _ p.0 q.0 one) (carried b a _ _ q.0 p.0 two) in
         p.0 ∙ ap (λ (n : ℕ). TooMany n) same ∙ sym q.0
 
 -- a refusal of a text is what is answered

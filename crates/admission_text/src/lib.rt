@@ -18,5 +18,6 @@ mod refusal;
 mod register;
 
 
+pub use number::{hex_digit_value, is_hex_digit};
 pub use read::read_admission;
 pub use refusal::AdmitRefusal;

@@ -31,15 +31,15 @@ fn decimal_of(digits: &[u8]) -> Option<u64>
     Some(amount as u64)
 }
 
-// Whether it is a digit of base 16.
-fn is_hex_digit(byte: u8) -> bool
+/// Whether it is a digit of base 16, of either case.
+pub fn is_hex_digit(byte: u8) -> bool
     ensures { result ≡ names.is_hex_digit byte }
 {
     byte.is_ascii_digit() || (b'a'..=b'f').contains(&byte) || (b'A'..=b'F').contains(&byte)
 }
 
-// What a digit of base 16 stands for.
-fn hex_digit_value(byte: u8) -> u8
+/// What a digit of base 16 stands for.
+pub fn hex_digit_value(byte: u8) -> u8
     requires { names.is_hex_digit byte ≡ true }
     ensures value { result ≡ names.hex_digit_value byte }
     ensures below { result < 16 }

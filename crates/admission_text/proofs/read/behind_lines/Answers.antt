@@ -1,7 +1,8 @@
 use Rattle.std.proofs.Common.{ap, Bor, List, ℕ}
 use Rattle.std.specs.Option.{option_map}
 use Rattle.std.proofs.lemmas.Result.{err_from_is_err_and}
-use Rattle.admission_text.proofs.LoopSteps.{left-less, line-end, line-some, line-stop}
+use Rattle.admission_text.proofs.LineSteps.{line-end, line-some, line-stop}
+use Rattle.admission_text.proofs.LoopSteps.{left-less}
 use Rattle.admission_text.proofs.read.behind_lines.Goals as goal
 
 pub returns-in_err-draft : goal.returns-in_err-draft
