@@ -163,9 +163,9 @@ tells-more before d l e tells is =
     record {
       headed = headed-more before l;
       names =
-        names-more d.admission e ∙ ap (λ (ns : List (List ℕ)). ns ++ cons_option (named e) []) tells.names
-        ∙ ap (λ (o : Option (List ℕ)). region_names before ++ cons_option o []) (sym s.name)
-        ∙ sym (filter_map-append (λ (x : Line). name_in x.words) before (l ∷ []));
+          names-more d.admission e ∙ ap (λ (ns : List (List ℕ)). ns ++ cons_option (named e) []) tells.names
+          ∙ ap (λ (o : Option (List ℕ)). region_names before ++ cons_option o []) (sym s.name)
+          ∙ sym (filter_map-append (λ (x : Line). name_in x.words) before (l ∷ []));
       stacked = noted (codes "stack") before l d.stacked (is_stack e) tells.stacked s.stack;
       lived = noted (codes "live") before l d.lived (is_live e) tells.lived s.live;
       regions = counted (codes "region") before l (length d.admission.regions) _ (is_region e) tells.regions s.region g.regions;
@@ -184,9 +184,9 @@ zip-length (w ∷ ws) (o ∷ os) h = let e = zip-length ws os h.1 in omega arith
 
 leb-suc : (m n : ℕ) → leb (m + 1) (n + 1) ≡ leb m n
 leb-suc m n = elim (cases_lt n m) [
-    | inl below ↦ lt-leb (m + 1) (n + 1) (omega arith) ∙ sym (lt-leb m n below)
-    | inr above ↦ le-leb (m + 1) (n + 1) (omega arith) ∙ sym (le-leb m n above)
-  ]
+  | inl below ↦ lt-leb (m + 1) (n + 1) (omega arith) ∙ sym (lt-leb m n below)
+  | inr above ↦ le-leb (m + 1) (n + 1) (omega arith) ∙ sym (le-leb m n above)
+]
 
 live-over : (before : List Line) (outs : List (List ℕ)) (live : List Output) → AllZip IsOutputText outs live → leb 17 (length live) ≡ goes_over before (codes "live" ∷ outs)
 live-over before outs live h =
@@ -263,8 +263,18 @@ number-inside before d name i tells is =
 
 pub formed-none : IsWellFormed no_admission
 formed-none = record {
-  few_regions = omega arith; few_needs = omega arith; few_aparts = omega arith; few_scratch = omega arith; few_live = omega arith;
-  regions = tt; needs = tt; aparts = tt; scratch = tt; live = tt; stack_words = refl; stack_small = omega arith;
+  few_regions = omega arith;
+  few_needs = omega arith;
+  few_aparts = omega arith;
+  few_scratch = omega arith;
+  few_live = omega arith;
+  regions = tt;
+  needs = tt;
+  aparts = tt;
+  scratch = tt;
+  live = tt;
+  stack_words = refl;
+  stack_small = omega arith;
 }
 
 pub formed-more : (before : List Line) (d : Draft) (words : List (List ℕ)) (e : Entry) → Tells before d → IsEntry before words e → is_over d e ≡ false
@@ -273,44 +283,96 @@ formed-more before d words entries.Header tells is within w = w
 formed-more before d words (entries.Region r) tells is within w =
     let room = leb-false 8 (length d.admission.regions) within in
     record {
-      few_regions = omega (arith, length-append d.admission.regions (r ∷ [])); few_needs = w.few_needs; few_aparts = w.few_aparts; few_scratch = w.few_scratch;
+      few_regions = omega (arith, length-append d.admission.regions (r ∷ []));
+      few_needs = w.few_needs;
+      few_aparts = w.few_aparts;
+      few_scratch = w.few_scratch;
       few_live = w.few_live;
       regions = all-push (λ (x : RegionLine). AreBounds x.base x.len) d.admission.regions r w.regions (expr-sound is.1.base r.base is.1.base_is, expr-sound is.1.len r.len is.1.len_is);
-      needs = w.needs; aparts = inside-more d.admission.regions r d.admission.aparts w.aparts; scratch = w.scratch; live = w.live; stack_words = w.stack_words;
+      needs = w.needs;
+      aparts = inside-more d.admission.regions r d.admission.aparts w.aparts;
+      scratch = w.scratch;
+      live = w.live;
+      stack_words = w.stack_words;
       stack_small = w.stack_small;
     }
 formed-more before d words (entries.Require n) tells is within w =
     let room = leb-false 32 (length d.admission.needs) within in
     record {
-      few_regions = w.few_regions; few_needs = omega (arith, length-append d.admission.needs (n ∷ [])); few_aparts = w.few_aparts; few_scratch = w.few_scratch;
-      few_live = w.few_live; regions = w.regions; needs = all-push IsNeed d.admission.needs n w.needs (need-sound words n is.1); aparts = w.aparts; scratch = w.scratch;
-      live = w.live; stack_words = w.stack_words; stack_small = w.stack_small;
+      few_regions = w.few_regions;
+      few_needs = omega (arith, length-append d.admission.needs (n ∷ []));
+      few_aparts = w.few_aparts;
+      few_scratch = w.few_scratch;
+      few_live = w.few_live;
+      regions = w.regions;
+      needs = all-push IsNeed d.admission.needs n w.needs (need-sound words n is.1);
+      aparts = w.aparts;
+      scratch = w.scratch;
+      live = w.live;
+      stack_words = w.stack_words;
+      stack_small = w.stack_small;
     }
 formed-more before d words (entries.Apart i j) tells is within w =
     let room = leb-false 28 (length d.admission.aparts) within in
     record {
-      few_regions = w.few_regions; few_needs = w.few_needs; few_aparts = omega (arith, length-append d.admission.aparts ((i, j) ∷ [])); few_scratch = w.few_scratch;
-      few_live = w.few_live; regions = w.regions; needs = w.needs;
+      few_regions = w.few_regions;
+      few_needs = w.few_needs;
+      few_aparts = omega (arith, length-append d.admission.aparts ((i, j) ∷ []));
+      few_scratch = w.few_scratch;
+      few_live = w.few_live;
+      regions = w.regions;
+      needs = w.needs;
       aparts = all-push (λ (p : ℕ × ℕ). (p.0 < length d.admission.regions) × (p.1 < length d.admission.regions)) d.admission.aparts (i, j) w.aparts
-        (number-inside before d is.1.0 i tells is.1.3, number-inside before d is.1.1 j tells is.1.4);
-      scratch = w.scratch; live = w.live; stack_words = w.stack_words; stack_small = w.stack_small;
+          (number-inside before d is.1.0 i tells is.1.3, number-inside before d is.1.1 j tells is.1.4);
+      scratch = w.scratch;
+      live = w.live;
+      stack_words = w.stack_words;
+      stack_small = w.stack_small;
     }
 formed-more before d words (entries.Scratch base len) tells is within w =
     let room = leb-false 4 (length d.admission.scratch) within in
     record {
-      few_regions = w.few_regions; few_needs = w.few_needs; few_aparts = w.few_aparts; few_scratch = omega (arith, length-append d.admission.scratch ((base, len) ∷ []));
-      few_live = w.few_live; regions = w.regions; needs = w.needs; aparts = w.aparts;
+      few_regions = w.few_regions;
+      few_needs = w.few_needs;
+      few_aparts = w.few_aparts;
+      few_scratch = omega (arith, length-append d.admission.scratch ((base, len) ∷ []));
+      few_live = w.few_live;
+      regions = w.regions;
+      needs = w.needs;
+      aparts = w.aparts;
       scratch = all-push (λ (s : Expr × Expr). AreBounds s.0 s.1) d.admission.scratch (base, len) w.scratch (expr-sound is.1.0 base is.1.3, expr-sound is.1.1 len is.1.4);
-      live = w.live; stack_words = w.stack_words; stack_small = w.stack_small;
+      live = w.live;
+      stack_words = w.stack_words;
+      stack_small = w.stack_small;
     }
 formed-more before d words (entries.Stack n) tells is within w =
     record {
-      few_regions = w.few_regions; few_needs = w.few_needs; few_aparts = w.few_aparts; few_scratch = w.few_scratch; few_live = w.few_live; regions = w.regions;
-      needs = w.needs; aparts = w.aparts; scratch = w.scratch; live = w.live; stack_words = is.1.3; stack_small = is.1.4;
+      few_regions = w.few_regions;
+      few_needs = w.few_needs;
+      few_aparts = w.few_aparts;
+      few_scratch = w.few_scratch;
+      few_live = w.few_live;
+      regions = w.regions;
+      needs = w.needs;
+      aparts = w.aparts;
+      scratch = w.scratch;
+      live = w.live;
+      stack_words = is.1.3;
+      stack_small = is.1.4;
     }
 formed-more before d words (entries.Live live) tells is within w =
     let room = leb-false 17 (length live) within in
     record {
-      few_regions = w.few_regions; few_needs = w.few_needs; few_aparts = w.few_aparts; few_scratch = w.few_scratch; few_live = omega arith; regions = w.regions;
-      needs = w.needs; aparts = w.aparts; scratch = w.scratch; live = outputs-sound is.1.0 live is.1.2; stack_words = w.stack_words; stack_small = w.stack_small;
+      few_regions = w.few_regions;
+      few_needs = w.few_needs;
+      few_aparts = w.few_aparts;
+      few_scratch = w.few_scratch;
+      few_live = omega arith;
+      regions = w.regions;
+      needs = w.needs;
+      aparts = w.aparts;
+      scratch = w.scratch;
+      live = outputs-sound is.1.0 live is.1.2;
+      stack_words = w.stack_words;
+      stack_small = w.stack_small;
     }

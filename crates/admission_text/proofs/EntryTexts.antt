@@ -76,19 +76,19 @@ relation-known word rel h =
     elim (chosen (bytes_eq word (codes "=")) Eq _ rel h) [
       | inl p ↦ eq-known word (codes "=") p.0 ∙ ap relation p.1
       | inr h1 ↦ elim (chosen (bytes_eq word (codes "!=")) Ne _ rel h1) [
-          | inl p ↦ eq-known word (codes "!=") p.0 ∙ ap relation p.1
-          | inr h2 ↦ elim (chosen (bytes_eq word (codes "<")) Lt _ rel h2) [
-              | inl p ↦ eq-known word (codes "<") p.0 ∙ ap relation p.1
-              | inr h3 ↦ elim (chosen (bytes_eq word (codes "<=")) Le _ rel h3) [
-                  | inl p ↦ eq-known word (codes "<=") p.0 ∙ ap relation p.1
-                  | inr h4 ↦ elim (chosen (bytes_eq word (codes "s<")) Slt _ rel h4) [
-                      | inl p ↦ eq-known word (codes "s<") p.0 ∙ ap relation p.1
-                      | inr h5 ↦ let p = chosen_then (bytes_eq word (codes "s<=")) (Some Sle) rel h5 in
-                          eq-known word (codes "s<=") p.0 ∙ ap relation (same_Some Sle rel p.1)
-                    ]
-                ]
+        | inl p ↦ eq-known word (codes "!=") p.0 ∙ ap relation p.1
+        | inr h2 ↦ elim (chosen (bytes_eq word (codes "<")) Lt _ rel h2) [
+          | inl p ↦ eq-known word (codes "<") p.0 ∙ ap relation p.1
+          | inr h3 ↦ elim (chosen (bytes_eq word (codes "<=")) Le _ rel h3) [
+            | inl p ↦ eq-known word (codes "<=") p.0 ∙ ap relation p.1
+            | inr h4 ↦ elim (chosen (bytes_eq word (codes "s<")) Slt _ rel h4) [
+              | inl p ↦ eq-known word (codes "s<") p.0 ∙ ap relation p.1
+              | inr h5 ↦ let p = chosen_then (bytes_eq word (codes "s<=")) (Some Sle) rel h5 in
+                  eq-known word (codes "s<=") p.0 ∙ ap relation (same_Some Sle rel p.1)
             ]
+          ]
         ]
+      ]
     ]
 
 relation-only : (rel : Rel) → relation_of (relation rel) ≡ Some rel
@@ -115,22 +115,22 @@ keyword-known word k h =
     elim (chosen (bytes_eq word (codes "admit")) words.Admit _ k h) [
       | inl p ↦ eq-known word (codes "admit") p.0 ∙ ap keyword_text p.1
       | inr h1 ↦ elim (chosen (bytes_eq word (codes "region")) words.Region _ k h1) [
-          | inl p ↦ eq-known word (codes "region") p.0 ∙ ap keyword_text p.1
-          | inr h2 ↦ elim (chosen (bytes_eq word (codes "require")) words.Require _ k h2) [
-              | inl p ↦ eq-known word (codes "require") p.0 ∙ ap keyword_text p.1
-              | inr h3 ↦ elim (chosen (bytes_eq word (codes "apart")) words.Apart _ k h3) [
-                  | inl p ↦ eq-known word (codes "apart") p.0 ∙ ap keyword_text p.1
-                  | inr h4 ↦ elim (chosen (bytes_eq word (codes "scratch")) words.Scratch _ k h4) [
-                      | inl p ↦ eq-known word (codes "scratch") p.0 ∙ ap keyword_text p.1
-                      | inr h5 ↦ elim (chosen (bytes_eq word (codes "stack")) words.Stack _ k h5) [
-                          | inl p ↦ eq-known word (codes "stack") p.0 ∙ ap keyword_text p.1
-                          | inr h6 ↦ let p = chosen_then (bytes_eq word (codes "live")) (Some words.Live) k h6 in
-                              eq-known word (codes "live") p.0 ∙ ap keyword_text (same_Some words.Live k p.1)
-                        ]
-                    ]
-                ]
+        | inl p ↦ eq-known word (codes "region") p.0 ∙ ap keyword_text p.1
+        | inr h2 ↦ elim (chosen (bytes_eq word (codes "require")) words.Require _ k h2) [
+          | inl p ↦ eq-known word (codes "require") p.0 ∙ ap keyword_text p.1
+          | inr h3 ↦ elim (chosen (bytes_eq word (codes "apart")) words.Apart _ k h3) [
+            | inl p ↦ eq-known word (codes "apart") p.0 ∙ ap keyword_text p.1
+            | inr h4 ↦ elim (chosen (bytes_eq word (codes "scratch")) words.Scratch _ k h4) [
+              | inl p ↦ eq-known word (codes "scratch") p.0 ∙ ap keyword_text p.1
+              | inr h5 ↦ elim (chosen (bytes_eq word (codes "stack")) words.Stack _ k h5) [
+                | inl p ↦ eq-known word (codes "stack") p.0 ∙ ap keyword_text p.1
+                | inr h6 ↦ let p = chosen_then (bytes_eq word (codes "live")) (Some words.Live) k h6 in
+                    eq-known word (codes "live") p.0 ∙ ap keyword_text (same_Some words.Live k p.1)
+              ]
             ]
+          ]
         ]
+      ]
     ]
 
 keyword-only : (k : Keyword) → keyword_of (keyword_text k) ≡ Some k
@@ -179,18 +179,51 @@ power m k some few h = (k, some, few, eqb-true m (2 ^ k) h)
 
 modulus-known : (m : ℕ) → is_modulus m ≡ true → IsModulus m
 modulus-known m h =
-    elim (or_cases (eqb m 2) _ h) [ inl e ↦ power m 1 (omega arith) (omega arith) e | inr h2 ↦
-    elim (or_cases (eqb m 4) _ h2) [ inl e ↦ power m 2 (omega arith) (omega arith) e | inr h3 ↦
-    elim (or_cases (eqb m 8) _ h3) [ inl e ↦ power m 3 (omega arith) (omega arith) e | inr h4 ↦
-    elim (or_cases (eqb m 16) _ h4) [ inl e ↦ power m 4 (omega arith) (omega arith) e | inr h5 ↦
-    elim (or_cases (eqb m 32) _ h5) [ inl e ↦ power m 5 (omega arith) (omega arith) e | inr h6 ↦
-    elim (or_cases (eqb m 64) _ h6) [ inl e ↦ power m 6 (omega arith) (omega arith) e | inr h7 ↦
-    elim (or_cases (eqb m 128) _ h7) [ inl e ↦ power m 7 (omega arith) (omega arith) e | inr h8 ↦
-    elim (or_cases (eqb m 256) _ h8) [ inl e ↦ power m 8 (omega arith) (omega arith) e | inr h9 ↦
-    elim (or_cases (eqb m 512) _ h9) [ inl e ↦ power m 9 (omega arith) (omega arith) e | inr h10 ↦
-    elim (or_cases (eqb m 1024) _ h10) [ inl e ↦ power m 10 (omega arith) (omega arith) e | inr h11 ↦
-    elim (or_cases (eqb m 2048) _ h11) [ inl e ↦ power m 11 (omega arith) (omega arith) e | inr h12 ↦
-    power m 12 (omega arith) (omega arith) h12 ] ] ] ] ] ] ] ] ] ] ]
+    elim (or_cases (eqb m 2) _ h) [
+      | inl e ↦ power m 1 (omega arith) (omega arith) e
+      | inr h2 ↦
+          elim (or_cases (eqb m 4) _ h2) [
+            | inl e ↦ power m 2 (omega arith) (omega arith) e
+            | inr h3 ↦
+                elim (or_cases (eqb m 8) _ h3) [
+                  | inl e ↦ power m 3 (omega arith) (omega arith) e
+                  | inr h4 ↦
+                      elim (or_cases (eqb m 16) _ h4) [
+                        | inl e ↦ power m 4 (omega arith) (omega arith) e
+                        | inr h5 ↦
+                            elim (or_cases (eqb m 32) _ h5) [
+                              | inl e ↦ power m 5 (omega arith) (omega arith) e
+                              | inr h6 ↦
+                                  elim (or_cases (eqb m 64) _ h6) [
+                                    | inl e ↦ power m 6 (omega arith) (omega arith) e
+                                    | inr h7 ↦
+                                        elim (or_cases (eqb m 128) _ h7) [
+                                          | inl e ↦ power m 7 (omega arith) (omega arith) e
+                                          | inr h8 ↦
+                                              elim (or_cases (eqb m 256) _ h8) [
+                                                | inl e ↦ power m 8 (omega arith) (omega arith) e
+                                                | inr h9 ↦
+                                                    elim (or_cases (eqb m 512) _ h9) [
+                                                      | inl e ↦ power m 9 (omega arith) (omega arith) e
+                                                      | inr h10 ↦
+                                                          elim (or_cases (eqb m 1024) _ h10) [
+                                                            | inl e ↦ power m 10 (omega arith) (omega arith) e
+                                                            | inr h11 ↦
+                                                                elim (or_cases (eqb m 2048) _ h11) [
+                                                                  | inl e ↦ power m 11 (omega arith) (omega arith) e
+                                                                  | inr h12 ↦
+                                                                      power m 12 (omega arith) (omega arith) h12
+                                                                ]
+                                                          ]
+                                                    ]
+                                              ]
+                                        ]
+                                  ]
+                            ]
+                      ]
+                ]
+          ]
+    ]
 
 modulus-power : (k : ℕ) → 0 < k → k ≤ 12 → is_modulus (2 ^ k) ≡ true
 modulus-power k some few =
@@ -225,26 +258,29 @@ region-known : (before : List Line) (d : Draft) (rest : List ℕ) (e : Entry) �
 unfolding region_entry
 region-known before d rest e tells h =
     let w = bind-some (four_words rest) (λ found. right_of found.3 >>= λ write. ((cond (is_region_name found.0 && is_none (region_number found.0 (names_of d))) (expr_of found.1) None)
-      >>= λ base. (expr_of found.2 >>= λ len. Some (entries.Region (record { name = found.0; base = base; len = len; write = write }))))) e h in
+    >>= λ base. (expr_of found.2 >>= λ len. Some (entries.Region (record { name = found.0; base = base; len = len; write = write }))))) e h in
     let name = w.0.0 in
     let write = bind-some (right_of w.0.3) (λ write. (cond (is_region_name name && is_none (region_number name (names_of d))) (expr_of w.0.1) None)
-      >>= λ base. (expr_of w.0.2 >>= λ len. Some (entries.Region (record { name = name; base = base; len = len; write = write })))) e w.2 in
+    >>= λ base. (expr_of w.0.2 >>= λ len. Some (entries.Region (record { name = name; base = base; len = len; write = write })))) e w.2 in
     let base = bind-some (cond (is_region_name name && is_none (region_number name (names_of d))) (expr_of w.0.1) None)
-      (λ base. expr_of w.0.2 >>= λ len. Some (entries.Region (record { name = name; base = base; len = len; write = write.0 }))) e write.2 in
+    (λ base. expr_of w.0.2 >>= λ len. Some (entries.Region (record { name = name; base = base; len = len; write = write.0 }))) e write.2 in
     let len = bind-some (expr_of w.0.2) (λ len. Some (entries.Region (record { name = name; base = base.0; len = len; write = write.0 }))) e base.2 in
     let tests = chosen_then (is_region_name name && is_none (region_number name (names_of d))) (expr_of w.0.1) base.0 base.1 in
     let both = and_parts (is_region_name name) (is_none (region_number name (names_of d))) tests.0 in
     let words = cuts.four-known rest w.0 w.1 in
-    let right = right-known w.0.3 write.0 write.1 in
-    (record { name = name; base = base.0; len = len.0; write = write.0 }, same_Some _ e len.2, record {
-      base = w.0.1;
-      len = w.0.2;
-      spelled = ap (λ (ws : List (List ℕ)). codes "region" ∷ ws) (words ∙ ap (λ (x : List ℕ). name ∷ w.0.1 ∷ w.0.2 ∷ x ∷ []) right);
-      name_is = name-known name both.0;
-      fresh = ap (region_number name) (sym tells.names) ∙ none-is (region_number name (names_of d)) both.1;
-      base_is = expr-known w.0.1 base.0 tests.1;
-      len_is = expr-known w.0.2 len.0 len.1;
-    })
+    let right = right-known w.0.3 write.0 write.1 in (
+      record { name = name; base = base.0; len = len.0; write = write.0 },
+      same_Some _ e len.2,
+      record {
+        base = w.0.1;
+        len = w.0.2;
+        spelled = ap (λ (ws : List (List ℕ)). codes "region" ∷ ws) (words ∙ ap (λ (x : List ℕ). name ∷ w.0.1 ∷ w.0.2 ∷ x ∷ []) right);
+        name_is = name-known name both.0;
+        fresh = ap (region_number name) (sym tells.names) ∙ none-is (region_number name (names_of d)) both.1;
+        base_is = expr-known w.0.1 base.0 tests.1;
+        len_is = expr-known w.0.2 len.0 len.1;
+      },
+    )
   where
     none-is : (o : Option ℕ) → is_none o ≡ true → o ≡ None
     none-is None h = refl
@@ -267,7 +303,7 @@ unfolding modulo_need
 modulo-known left word modulus equals rest n h =
     let both : Bool = bytes_eq word (codes "mod") && bytes_eq equals (codes "=") in
     let m = bind-some (cond both (number_of modulus) None)
-      (λ m. number_of rest >>= λ r. ((cond (is_modulus m && ltb r m) (expr_of left) None) >>= λ a. Some (Modulo a m r))) n h in
+    (λ m. number_of rest >>= λ r. ((cond (is_modulus m && ltb r m) (expr_of left) None) >>= λ a. Some (Modulo a m r))) n h in
     let r = bind-some (number_of rest) (λ r. (cond (is_modulus m.0 && ltb r m.0) (expr_of left) None) >>= λ a. Some (Modulo a m.0 r)) n m.2 in
     let a = bind-some (cond (is_modulus m.0 && ltb r.0 m.0) (expr_of left) None) (λ a. Some (Modulo a m.0 r.0)) n r.2 in
     let means : Modulo a.0 m.0 r.0 ≡ n = same_Some (Modulo a.0 m.0 r.0) n a.2 in
@@ -275,11 +311,18 @@ modulo-known left word modulus equals rest n h =
     let parts_are = and_parts (bytes_eq word (codes "mod")) (bytes_eq equals (codes "=")) spelled.0 in
     let within = chosen_then (is_modulus m.0 && ltb r.0 m.0) (expr_of left) a.0 a.1 in
     let bounds = and_parts (is_modulus m.0) (ltb r.0 m.0) within.0 in
-    subst (IsRequireEntry (codes "require" ∷ left ∷ word ∷ modulus ∷ equals ∷ rest ∷ [])) means
-    (left, modulus, rest,
-    ap (λ (x : List ℕ). codes "require" ∷ left ∷ x ∷ modulus ∷ equals ∷ rest ∷ []) (eq-known word (codes "mod") parts_are.0)
-    ∙ ap (λ (x : List ℕ). codes "require" ∷ left ∷ codes "mod" ∷ modulus ∷ x ∷ rest ∷ []) (eq-known equals (codes "=") parts_are.1),
-    expr-known left a.0 within.1, number-known modulus m.0 spelled.1, number-known rest r.0 r.1, modulus-known m.0 bounds.0, ltb-true r.0 m.0 bounds.1)
+    subst (IsRequireEntry (codes "require" ∷ left ∷ word ∷ modulus ∷ equals ∷ rest ∷ [])) means (
+      left,
+      modulus,
+      rest,
+      ap (λ (x : List ℕ). codes "require" ∷ left ∷ x ∷ modulus ∷ equals ∷ rest ∷ []) (eq-known word (codes "mod") parts_are.0)
+          ∙ ap (λ (x : List ℕ). codes "require" ∷ left ∷ codes "mod" ∷ modulus ∷ x ∷ rest ∷ []) (eq-known equals (codes "=") parts_are.1),
+      expr-known left a.0 within.1,
+      number-known modulus m.0 spelled.1,
+      number-known rest r.0 r.1,
+      modulus-known m.0 bounds.0,
+      ltb-true r.0 m.0 bounds.1,
+    )
 
 need-by-known : (rest : List ℕ) (n : Need) (r : Option (List ℕ × List ℕ × List ℕ × List ℕ × List ℕ)) → five_words rest ≡ r → need_by r rest ≡ Some n
     → IsRequireEntry (codes "require" ∷ parts 32 rest) n
@@ -304,19 +347,31 @@ apart-known before d rest e tells h =
     let w = bind-some (two_words rest) (λ found. region_number found.0 (names_of d) >>= λ i. (region_number found.1 (names_of d) >>= λ j. cond (eqb i j) None (Some (entries.Apart i j)))) e h in
     let i = bind-some (region_number w.0.0 (names_of d)) (λ i. region_number w.0.1 (names_of d) >>= λ j. cond (eqb i j) None (Some (entries.Apart i j))) e w.2 in
     let j = bind-some (region_number w.0.1 (names_of d)) (λ j. cond (eqb i.0 j) None (Some (entries.Apart i.0 j))) e i.2 in
-    let other = chosen_else (eqb i.0 j.0) (Some (entries.Apart i.0 j.0)) e j.2 in
-    (i.0, j.0, same_Some (entries.Apart i.0 j.0) e other.1,
-    (w.0.0, w.0.1, ap (λ (ws : List (List ℕ)). codes "apart" ∷ ws) (cuts.two-known rest w.0 w.1), ap (region_number w.0.0) (sym tells.names) ∙ i.1,
-    ap (region_number w.0.1) (sym tells.names) ∙ j.1, eqb-false i.0 j.0 other.0))
+    let other = chosen_else (eqb i.0 j.0) (Some (entries.Apart i.0 j.0)) e j.2 in (
+      i.0,
+      j.0,
+      same_Some (entries.Apart i.0 j.0) e other.1,
+      (
+        w.0.0,
+        w.0.1,
+        ap (λ (ws : List (List ℕ)). codes "apart" ∷ ws) (cuts.two-known rest w.0 w.1),
+        ap (region_number w.0.0) (sym tells.names) ∙ i.1,
+        ap (region_number w.0.1) (sym tells.names) ∙ j.1,
+        eqb-false i.0 j.0 other.0,
+      ),
+    )
 
 scratch-known : (rest : List ℕ) (e : Entry) → scratch_entry rest ≡ Some e → (base len : Expr) × (entries.Scratch base len ≡ e) × IsScratchEntry (codes "scratch" ∷ parts 32 rest) base len
 unfolding scratch_entry
 scratch-known rest e h =
     let w = bind-some (two_words rest) (λ found. expr_of found.0 >>= λ base. (expr_of found.1 >>= λ len. Some (entries.Scratch base len))) e h in
     let base = bind-some (expr_of w.0.0) (λ base. expr_of w.0.1 >>= λ len. Some (entries.Scratch base len)) e w.2 in
-    let len = bind-some (expr_of w.0.1) (λ len. Some (entries.Scratch base.0 len)) e base.2 in
-    (base.0, len.0, same_Some (entries.Scratch base.0 len.0) e len.2,
-    (w.0.0, w.0.1, ap (λ (ws : List (List ℕ)). codes "scratch" ∷ ws) (cuts.two-known rest w.0 w.1), expr-known w.0.0 base.0 base.1, expr-known w.0.1 len.0 len.1))
+    let len = bind-some (expr_of w.0.1) (λ len. Some (entries.Scratch base.0 len)) e base.2 in (
+      base.0,
+      len.0,
+      same_Some (entries.Scratch base.0 len.0) e len.2,
+      (w.0.0, w.0.1, ap (λ (ws : List (List ℕ)). codes "scratch" ∷ ws) (cuts.two-known rest w.0 w.1), expr-known w.0.0 base.0 base.1, expr-known w.0.1 len.0 len.1),
+    )
 
 stack-known : (d : Draft) (rest : List ℕ) (e : Entry) → stack_entry d rest ≡ Some e → (n : ℕ) × (entries.Stack n ≡ e) × IsStackEntry (codes "stack" ∷ parts 32 rest) n × (d.stacked ≡ false)
 unfolding stack_entry
@@ -325,9 +380,12 @@ stack-known d rest e h =
     let n = bind-some (number_of w.0) (λ n. cond (eqb (n % 8) 0 && leb n 4096) (Some (entries.Stack n)) None) e w.2 in
     let first = chosen_else d.stacked (one_word rest) w.0 w.1 in
     let within = chosen_then (eqb (n.0 % 8) 0 && leb n.0 4096) (Some (entries.Stack n.0)) e n.2 in
-    let both = and_parts (eqb (n.0 % 8) 0) (leb n.0 4096) within.0 in
-    (n.0, same_Some (entries.Stack n.0) e within.1,
-    (w.0, ap (λ (ws : List (List ℕ)). codes "stack" ∷ ws) (cuts.one-known rest w.0 first.1), number-known w.0 n.0 n.1, eqb-true (n.0 % 8) 0 both.0, leb-true n.0 4096 both.1), first.0)
+    let both = and_parts (eqb (n.0 % 8) 0) (leb n.0 4096) within.0 in (
+      n.0,
+      same_Some (entries.Stack n.0) e within.1,
+      (w.0, ap (λ (ws : List (List ℕ)). codes "stack" ∷ ws) (cuts.one-known rest w.0 first.1), number-known w.0 n.0 n.1, eqb-true (n.0 % 8) 0 both.0, leb-true n.0 4096 both.1),
+      first.0,
+    )
 
 live-known : (d : Draft) (rest : Option (List ℕ)) (e : Entry) → live_entry d rest ≡ Some e
     → (live : List Output) × (entries.Live live ≡ e) × AllZip IsOutputText (parts_left 32 rest) live × (d.lived ≡ false)

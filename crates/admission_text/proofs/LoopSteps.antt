@@ -53,11 +53,13 @@ module _ (text rest : List ℕ) (minus : Bool) (terms : List Term) (so_far : ter
       → kept ≡ terms ++ t ∷ [] → (terms_of 8 false text ≡ before_those kept (terms_of (8 - length kept) next after)) × (length kept ≤ 8)
   more-some here after next t kept more cut some is =
       let whole = term-left (Some (here, next, after)) more (sym cut) in
-      let count = length-more terms kept t is in
-      (whole ∙ ap (λ (o : Option Term). before_those terms (o >>= λ u. (terms_of (8 - (length terms + 1)) next after >>= λ us. Some (u ∷ us)))) (sym some)
-      ∙ before_those-cons terms t (terms_of (8 - (length terms + 1)) next after)
-      ∙ ap (λ (ts : List Term). before_those ts (terms_of (8 - (length terms + 1)) next after)) (sym is)
-      ∙ ap (λ (n : ℕ). before_those kept (terms_of (8 - n) next after)) (sym count), omega arith)
+      let count = length-more terms kept t is in (
+        whole ∙ ap (λ (o : Option Term). before_those terms (o >>= λ u. (terms_of (8 - (length terms + 1)) next after >>= λ us. Some (u ∷ us)))) (sym some)
+            ∙ before_those-cons terms t (terms_of (8 - (length terms + 1)) next after)
+            ∙ ap (λ (ts : List Term). before_those ts (terms_of (8 - (length terms + 1)) next after)) (sym is)
+            ∙ ap (λ (n : ℕ). before_those kept (terms_of (8 - n) next after)) (sym count),
+        omega arith,
+      )
 
   -- eight terms, and more behind them
   pub too-many : 8 ≤ length terms → None ≡ expr_of text

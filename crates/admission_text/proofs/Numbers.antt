@@ -101,9 +101,9 @@ hex-digit-high c h =
     elim (or_cases (leb 48 c && leb c 57) ((leb 97 c && leb c 102) || (leb 65 c && leb c 70)) h) [
       | inl low ↦ (and_parts (leb 48 c) (leb c 57) low).0
       | inr high ↦ elim (or_cases (leb 97 c && leb c 102) (leb 65 c && leb c 70) high) [
-          | inl small ↦ le-leb 48 c (omega (arith, leb-true 97 c (and_parts (leb 97 c) (leb c 102) small).0))
-          | inr great ↦ le-leb 48 c (omega (arith, leb-true 65 c (and_parts (leb 65 c) (leb c 70) great).0))
-        ]
+        | inl small ↦ le-leb 48 c (omega (arith, leb-true 97 c (and_parts (leb 97 c) (leb c 102) small).0))
+        | inr great ↦ le-leb 48 c (omega (arith, leb-true 65 c (and_parts (leb 65 c) (leb c 70) great).0))
+      ]
     ]
 
 hex-high : (digits : List ℕ) → list_all is_hex_digit digits ≡ true → list_all (λ b. leb 48 b) digits ≡ true

@@ -149,18 +149,18 @@ named-known text name o spelled h =
     elim (either-known (option_or (option_or (option_or (option_or g64 g32) g16) g8) x) y o h) [
       | inr e ↦ vector-known 121 256 text name o (inr (refl, refl)) spelled e
       | inl e5 ↦ elim (either-known (option_or (option_or (option_or g64 g32) g16) g8) x o e5) [
-          | inr e ↦ vector-known 120 128 text name o (inl (refl, refl)) spelled e
-          | inl e4 ↦ elim (either-known (option_or (option_or g64 g32) g16) g8 o e4) [
-              | inr e ↦ general-known 8 text name o spelled e
-              | inl e3 ↦ elim (either-known (option_or g64 g32) g16 o e3) [
-                  | inr e ↦ general-known 16 text name o spelled e
-                  | inl e2 ↦ elim (either-known g64 g32 o e2) [
-                      | inr e ↦ general-known 32 text name o spelled e
-                      | inl e ↦ general-known 64 text name o spelled e
-                    ]
-                ]
+        | inr e ↦ vector-known 120 128 text name o (inl (refl, refl)) spelled e
+        | inl e4 ↦ elim (either-known (option_or (option_or g64 g32) g16) g8 o e4) [
+          | inr e ↦ general-known 8 text name o spelled e
+          | inl e3 ↦ elim (either-known (option_or g64 g32) g16 o e3) [
+            | inr e ↦ general-known 16 text name o spelled e
+            | inl e2 ↦ elim (either-known g64 g32 o e2) [
+              | inr e ↦ general-known 32 text name o spelled e
+              | inl e ↦ general-known 64 text name o spelled e
             ]
+          ]
         ]
+      ]
     ]
 
 pub output-known : (text : List ℕ) (o : Output) → output_of text ≡ Some o → IsOutputText text o

@@ -116,7 +116,7 @@ entry-outcome t ts n more before d tells (Some e) is = over-outcome t ts n more 
 
 line-outcome : (t : List ℕ) (ts : List (List ℕ)) (n : ℕ) → AreOutcomes ts (n + 1) → (before : List Line) (d : Draft) → Tells before d → (skip : Bool)
     → IsOutcome IsFault Precedes IsRead before (cond skip (lines_from (n + 1) ts) (line_at n t ∷ lines_from (n + 1) ts))
-      (cond skip (read_all (n + 1) d ts) (entry_then n d (entry_of d t) (λ e. read_all (n + 1) (drafted_with d e) ts)))
+    (cond skip (read_all (n + 1) d ts) (entry_then n d (entry_of d t) (λ e. read_all (n + 1) (drafted_with d e) ts)))
 line-outcome t ts n more before d tells true = more before d tells
 line-outcome t ts n more before d tells false = entry-outcome t ts n more before d tells (entry_of d t) refl
 

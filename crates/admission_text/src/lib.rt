@@ -17,7 +17,6 @@ mod read;
 mod refusal;
 mod register;
 
-
 pub use number::{hex_digit_value, is_hex_digit};
 pub use read::read_admission;
 pub use refusal::AdmitRefusal;

@@ -36,7 +36,10 @@ fn relation_of(word: &[u8]) -> Option<Rel>
 fn is_modulus(m: u64) -> bool
     ensures { result ≡ reading.is_modulus m }
 {
-    matches!(m, 2 | 4 | 8 | 16 | 32 | 64 | 128 | 256 | 512 | 1024 | 2048 | 4096)
+    matches!(
+        m,
+        2 | 4 | 8 | 16 | 32 | 64 | 128 | 256 | 512 | 1024 | 2048 | 4096
+    )
 }
 
 // Whether each byte is a lower-case letter or a digit.
@@ -57,7 +60,9 @@ fn is_region_name(name: &[u8]) -> bool
     ensures { result ≡ reading.is_region_name name.now }
 {
     match name {
-        [first, rest @ ..] => first.is_ascii_lowercase() && are_name_bytes(rest) && rest.len() <= 15,
+        [first, rest @ ..] => first.is_ascii_lowercase()
+            && are_name_bytes(rest)
+            && rest.len() <= 15,
         [] => false,
     }
 }
@@ -170,7 +175,12 @@ fn modulo_need(
 
 // `E REL E`.
 #[tactic(auto, unfolding(crate::specs::Reading::compare_need))]
-fn compare_need(alloc: Global, left: &[u8], word: &[u8], right: &[u8]) -> Result<Option<Need>, Memory>
+fn compare_need(
+    alloc: Global,
+    left: &[u8],
+    word: &[u8],
+    right: &[u8],
+) -> Result<Option<Need>, Memory>
     ensures { IfOk result (λ found. found ≡ reading.compare_need left.now word.now right.now) }
 {
     let Some(rel) = relation_of(word) else {
@@ -307,7 +317,12 @@ fn keyword_of(word: &[u8]) -> Option<Keyword>
 }
 
 // What a line of this keyword spells.
-fn entry_with(alloc: Global, draft: &Draft, keyword: Keyword, rest: Option<&[u8]>) -> Result<Option<Entry>, Memory>
+fn entry_with(
+    alloc: Global,
+    draft: &Draft,
+    keyword: Keyword,
+    rest: Option<&[u8]>,
+) -> Result<Option<Entry>, Memory>
     requires { length draft.now.admission.regions ≤ 8 }
     ensures { IfOk result (λ found. found ≡ reading.entry_with draft.now keyword (option_map (λ t. t.now) rest.entry)) }
 {

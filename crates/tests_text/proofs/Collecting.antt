@@ -1,5 +1,5 @@
 -- Values that are collected, one after another.
-use Rattle.std.proofs.Common.{◌≡◌, ℕ, zero, suc, ◌+◌, ◌-◌, ◌<◌, ◌≤◌, List, [], ◌∷◌, ◌++◌, length, get_or, set, take, Option, Some, None, refl, sym, ap, ◌∙◌, subst, append_assoc, append-nil, arith}
+use Rattle.std.proofs.Common.{◌≡◌, ℕ, zero, suc, ◌+◌, ◌-◌, ◌<◌, ◌≤◌, List, [], ◌∷◌, ◌++◌, length, get_or, set, slice_get, take, Option, Some, None, refl, sym, ap, ◌∙◌, subst, append_assoc, append-nil, arith}
 use Rattle.std.proofs.lemmas.Option.{same_Some}
 use Rattle.std.proofs.Math.Seq.{take-suc-set}
 use Rattle.tests_text.specs.Reading.{◌>>=◌, collected, values}
@@ -33,3 +33,43 @@ collected-known {A = A} f (suc count) n xs h =
         → f (n + k) ≡ Some (get_or (x ∷ rest) k d)
     place x rest first later zero d below = let e : n + zero ≡ n = omega arith in ap f e ∙ first
     place x rest first later (suc k) d below = let e : n + suc k ≡ n + 1 + k = omega arith in ap f e ∙ later k d (omega arith)
+
+-- values that are those of their places are collected
+pub collected-only : {A : Type 0} (f : ℕ → Option A) (xs : List A) (count n : ℕ) → length xs ≡ count → ((k : ℕ) (x : A) → slice_get xs k ≡ Some x → f (n + k) ≡ Some x)
+    → collected f n count ≡ Some xs
+unfolding collected
+collected-only f [] zero n long each = refl
+collected-only f [] (suc count) n long each = absurd (omega arith)
+collected-only f (x ∷ xs) zero n long each = absurd (omega arith)
+collected-only f (x ∷ xs) (suc count) n long each =
+    let here : f n ≡ Some x = sym (ap f (n-zero n)) ∙ each 0 x refl in
+    let rest = collected-only f xs count (n + 1) (omega arith) (λ k y there. ap f (n-suc n k) ∙ each (suc k) y there) in
+    rw (here, rest) refl
+  where
+    n-zero : (m : ℕ) → m + 0 ≡ m
+    n-zero m = omega arith
+    n-suc : (m k : ℕ) → m + 1 + k ≡ m + suc k
+    n-suc m k = omega arith
+
+-- values of a function at places
+
+pub length-values : (f : ℕ → ℕ) (count n : ℕ) → length (values f n count) ≡ count
+unfolding values
+length-values f zero n = refl
+length-values f (suc count) n = let e = length-values f count (n + 1) in omega arith
+
+pub values-at : (f : ℕ → ℕ) (count n k : ℕ) → k < count → get_or (values f n count) k 0 ≡ f (n + k)
+unfolding values
+values-at f zero n k below = absurd (omega arith)
+values-at f (suc count) n zero below = ap f (omega arith)
+values-at f (suc count) n (suc k) below = values-at f count (n + 1) k (omega arith) ∙ ap f (omega arith)
+
+pub values-only : (f : ℕ → ℕ) (xs : List ℕ) (count n : ℕ) → length xs ≡ count → ((k : ℕ) → k < count → get_or xs k 0 ≡ f (n + k)) → xs ≡ values f n count
+unfolding values
+values-only f [] zero n long each = refl
+values-only f [] (suc count) n long each = absurd (omega arith)
+values-only f (x ∷ xs) zero n long each = absurd (omega arith)
+values-only f (x ∷ xs) (suc count) n long each =
+    let here : x ≡ f n = each 0 (omega arith) ∙ ap f (omega arith) in
+    let rest : xs ≡ values f (n + 1) count = values-only f xs count (n + 1) (omega arith) (λ k below. each (suc k) (omega arith) ∙ ap f (omega arith)) in
+    ap (λ (y : ℕ). y ∷ xs) here ∙ ap (λ (ys : List ℕ). f n ∷ ys) rest

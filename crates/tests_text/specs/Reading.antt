@@ -81,7 +81,7 @@ piece_of d = do
   at ← whole_of place
   digits ← get (codes "hex") d
   text ← as_str digits
-  if is_hex_text text && nat_le (length text / 2) (2 ^ 64 - at) then Some (at, text) else None
+  if is_hex_text text && nat_le (at + length text / 2) (2 ^ 64) then Some (at, text) else None
 
 -- how many bytes pieces have together, and those before them n; counts above 2^64 - 1 are given as that
 unfoldable pub size_of : ℕ → Items → Option ℕ

@@ -42,9 +42,9 @@ is_object kind (object ms) = are_named (names kind) ms
 abbrev pub member_of : Option Data → List ℕ → Option Data
 member_of found name = option_and_then (get name) found
 
--- a whole number: a JSON number without a sign, a fraction or an exponent
+-- a whole number below 2^64: `read` gives a JSON number without a sign, a fraction and an exponent so, and no other
 abbrev pub IsWhole : Data → ℕ → Type 0
-IsWhole d n = (n < 2 ^ 64) × (d ≡ number (unsigned n))
+IsWhole d n = d ≡ number (unsigned n)
 
 -- two digits of base 16 a byte, of either case
 abbrev pub AreHexBytes : List ℕ → List ℕ → Type 0

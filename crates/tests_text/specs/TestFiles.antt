@@ -65,9 +65,17 @@ fault_number TooMany = 0
 fault_number (TooManyBytes k) = k
 fault_number Memory = 0
 
--- of no greater test
+-- the place of a kind in the order of one test's faults
+abbrev pub rank : TestRefusal → ℕ
+rank NotJson = 0
+rank (BadShape k) = 0
+rank TooMany = 0
+rank (TooManyBytes k) = 1
+rank Memory = 0
+
+-- of a lesser test, or of the same test no later in the order
 abbrev pub Precedes : TestRefusal → TestRefusal → Type 0
-Precedes e other = fault_number e ≤ fault_number other
+Precedes e other = (fault_number e < fault_number other) ⊎ ((fault_number e ≡ fault_number other) × (rank e ≤ rank other))
 
 -- the refusal of a text: no JSON, an outer value that is not as it should be, too many tests, or else the first fault of a test
 pub data IsRefused (text : List ℕ) (e : TestRefusal) : Type 0 where

@@ -30,7 +30,7 @@ fn piece_of(value: &Value) -> Option<(u64, &[u8])>
 
 // Whether so many bytes from an address on end at 2^64 at most.
 fn fits(at: u64, count: usize) -> bool
-    ensures { result ≡ nat_le count (2 ^ 64 - at) }
+    ensures { result ≡ nat_le (at + count) (2 ^ 64) }
 {
     count == 0 || (count - 1) as u64 <= u64::MAX - at
 }

@@ -111,7 +111,10 @@ pub fn read_tests(alloc: Global, bytes: &[u8]) -> Result<Tests, TestRefusal>
 {
     match Value::from_slice(alloc, bytes) {
         Ok(value) => file_of(alloc, &value),
-        Err(failed) if failed.is_memory() => Err(TestRefusal::Memory),
-        Err(_) => Err(TestRefusal::NotJson),
+        Err(failed) => Err(if failed.is_memory() {
+            TestRefusal::Memory
+        } else {
+            TestRefusal::NotJson
+        }),
     }
 }

@@ -21,10 +21,12 @@ loop-left-smaller c =
 
 pub loop-left-preserved : goal.loop-left-preserved
 loop-left-preserved c =
-    let h = c.loop-left in
-    (line-some (option_map (λ (t : Bor (List ℕ)). t.now) h.left) h.number h.draft c.args.text.now h.invariant.0 c.in-Some.rest.now c.first_part.result.0.now
-    (option_map (λ (t : Bor (List ℕ)). t.now) c.first_part.result.1) c.saturating_add-number.result c.in_ok-draft.draft
-    (ap (option_map (λ (t : Bor (List ℕ)). t.now)) c.in-Some.is) c.first_part.ensures c.saturating_add-number.ensures c.in_ok-draft.ensures.gives, c.in_ok-draft.ensures.few)
+    let h = c.loop-left in (
+      line-some (option_map (λ (t : Bor (List ℕ)). t.now) h.left) h.number h.draft c.args.text.now h.invariant.0 c.in-Some.rest.now c.first_part.result.0.now
+          (option_map (λ (t : Bor (List ℕ)). t.now) c.first_part.result.1) c.saturating_add-number.result c.in_ok-draft.draft
+          (ap (option_map (λ (t : Bor (List ℕ)). t.now)) c.in-Some.is) c.first_part.ensures c.saturating_add-number.ensures c.in_ok-draft.ensures.gives,
+      c.in_ok-draft.ensures.few,
+    )
 
 pub returns : goal.returns
 returns c =
