@@ -1,0 +1,4 @@
+pub mod Values
+pub mod WellFormed
+pub mod Admitted
+pub mod Tests

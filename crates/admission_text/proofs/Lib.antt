@@ -1,0 +1,11 @@
+pub mod Pieces
+pub mod TextParts
+pub mod Decimals
+pub mod Numbers
+pub mod Registers
+pub mod Terms
+pub mod EntryTexts
+pub mod LoopSteps
+pub mod LineSteps
+pub mod Drafts
+pub mod WholeTexts

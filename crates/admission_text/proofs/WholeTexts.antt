@@ -1,0 +1,330 @@
+-- What is read of a whole text is right, and only that is.
+use Rattle.std.proofs.Common.{◌≡◌, ◌≢◌, ℕ, suc, ◌+◌, ◌-◌, ◌^◌, ◌<◌, ◌≤◌, ◌⊎◌, inl, inr, Bool, true, false, ◌||◌, cond, List, [], ◌∷◌, ◌++◌, length, Option, Some, None, Result, Ok, Err, IfOk, codes, refl, sym, ap, ◌∙◌, subst, append-nil, append_assoc, arith}
+use Rattle.std.proofs.lemmas.Bool.{both_ways}
+use Rattle.align_base.specs.Firsts.{◌>>=◌, HasFault, IsFirst}
+use Rattle.align_base.proofs.FirstFaults.{AreAll, ComesFirst, IsItem, IsOutcome, fault-cases, fault-here, fault-none, first-once, outcome-then}
+use Rattle.admission.specs.declared.admission.Admission.{Admission}
+use Rattle.admission.specs.WellFormed.{IsWellFormed}
+use Rattle.admission_text.specs.declared.entry.Draft.{Draft}
+use Rattle.admission_text.specs.declared.entry.Entry.{Entry}
+use Rattle.admission_text.specs.declared.refusal.AdmitRefusal.{AdmitRefusal}
+use Rattle.admission_text.specs.declared.refusal.AdmitRefusal.TheVariants.{BadLine, TooMany, NoLive, Memory}
+use Rattle.admission_text.specs.Grammar.{IsEntry, Line, has_line, is_skipped, lines_from, lines_of, parts}
+use Rattle.admission_text.specs.Entries.{AreEntries, IsAdmissionText, goes_over, no_admission, with_entries, with_entry}
+use Rattle.admission_text.specs.Refusals.{Dead, Faulty, Gives, IsFault, IsRefused, Precedes, Reads, fault_line, given, line_number, rank}
+use Rattle.admission_text.specs.Reading.{entry_of}
+use Rattle.admission_text.specs.ReadingLines.{admission_of, behind_line, behind_lines, drafted_with, finished, is_over, judged, next_line, no_draft}
+use Rattle.admission_text.proofs.EntryTexts.{Tells, entry-known, entry-only}
+use Rattle.admission_text.proofs.Drafts.{formed-more, formed-none, over-same, tells-more, tells-none}
+use Rattle.admission_text.proofs.TextParts.{first-same, rest-same}
+
+-- the entries of lines, one after another, with true numbers of lines
+
+abbrev entry_then : ℕ → Draft → Option Entry → (Entry → Result (List Entry) AdmitRefusal) → Result (List Entry) AdmitRefusal
+entry_then n d None more = Err (BadLine n)
+entry_then n d (Some e) more = cond (is_over d e) (Err (TooMany n)) (more e >>= λ es. Ok (e ∷ es))
+
+unfoldable read_all : ℕ → Draft → List (List ℕ) → Result (List Entry) AdmitRefusal
+read_all n d [] = Ok []
+read_all n d (t ∷ ts) = cond (is_skipped t) (read_all (n + 1) d ts) (entry_then n d (entry_of d t) (λ e. read_all (n + 1) (drafted_with d e) ts))
+
+-- what is read of a line
+abbrev IsRead : List Line → Line → List Entry → Type 0
+IsRead before l found = (e : Entry) × (found ≡ e ∷ []) × IsEntry before l.words e × (goes_over before l.words ≡ false)
+
+fault-at : (before : List Line) (l : Line) (e : AdmitRefusal) → IsFault before l e → fault_line e ≡ l.number
+fault-at before l e (inl p) = ap fault_line p.0
+fault-at before l e (inr p) = ap fault_line p.0
+
+-- lines are numbered upwards
+lines-above : (ts : List (List ℕ)) (m : ℕ) (before : List Line) (item : Line) (after : List Line) → lines_from m ts ≡ before ++ item ∷ after → m ≤ item.number
+lines-above [] m [] item after is = absurd (cc)
+lines-above [] m (b ∷ before) item after is = absurd (cc)
+lines-above (t ∷ ts) m before item after is = by_skip (λ front. lines-above ts (m + 1) front item after) (is_skipped t) before is
+  where
+    by_skip : ((front : List Line) → lines_from (m + 1) ts ≡ front ++ item ∷ after → m + 1 ≤ item.number) → (skip : Bool) (front : List Line) → cond skip (lines_from (m + 1) ts) (record { number = m; words = parts 32 t } ∷ lines_from (m + 1) ts) ≡ front ++ item ∷ after → m ≤ item.number
+    by_skip later true front e = let above = later front e in omega arith
+    by_skip later false [] e = let same : m ≡ item.number = ap (λ (x : Line). x.number) (first-same e) in omega arith
+    by_skip later false (b ∷ front) e = let above = later front (rest-same e) in omega arith
+
+-- so a fault of a line goes before those of later lines
+in-order : (front : List Line) (l : Line) (ts : List (List ℕ)) → ComesFirst IsFault Precedes front l (lines_from (l.number + 1) ts)
+in-order front l ts e other here later =
+    let above : l.number + 1 ≤ later.item.number = lines-above ts (l.number + 1) later.before later.item later.after later.there in
+    let low : fault_line e ≡ l.number = fault-at front l e here in
+    let high : fault_line other ≡ later.item.number = fault-at ((front ++ l ∷ []) ++ later.before) later.item other later.wrong in
+    inl (omega arith)
+
+-- a fault of the first item is the first fault
+stops : (front : List Line) (l : Line) (ts : List (List ℕ)) (e : AdmitRefusal) → IsFault front l e → ((other : AdmitRefusal) → IsFault front l other → Precedes e other)
+    → IsFirst IsFault Precedes front (l ∷ lines_from (l.number + 1) ts) e
+stops front l ts e here least =
+    record {
+      has = fault-here IsFault front l (lines_from (l.number + 1) ts) e here;
+      least = λ other h. elim (fault-cases IsFault front l (lines_from (l.number + 1) ts) other h) [
+        | inl at ↦ least other at
+        | inr later ↦ in-order front l ts e other here later
+      ];
+    }
+
+same-line : (e other : AdmitRefusal) (n : ℕ) → fault_line e ≡ n → fault_line other ≡ n → rank e ≤ rank other → Precedes e other
+same-line e other n a b low = inr (a ∙ sym b, low)
+
+rank-of : (other : AdmitRefusal) (x : AdmitRefusal) → other ≡ x → rank other ≡ rank x
+rank-of other x is = ap rank is
+
+-- a line that spells nothing
+bad-first : (before : List Line) (l : Line) (other : AdmitRefusal) → IsFault before l other → Precedes (BadLine l.number) other
+bad-first before l other h = same-line (BadLine l.number) other l.number refl (fault-at before l other h) (omega arith)
+
+-- a line that goes over, and spells an entry
+over-first : (before : List Line) (l : Line) (e : Entry) → IsEntry before l.words e → (other : AdmitRefusal) → IsFault before l other → Precedes (TooMany l.number) other
+over-first before l e is other (inl p) = absurd (p.1 e is)
+over-first before l e is other (inr p) =
+    let same : rank other ≡ 1 = ap rank p.0 in
+    same-line (TooMany l.number) other l.number refl (ap fault_line p.0) (omega arith)
+
+no-fault : (before : List Line) (l : Line) (e : Entry) → IsEntry before l.words e → goes_over before l.words ≡ false → (other : AdmitRefusal) → IsFault before l other → ⊥
+no-fault before l e is within other (inl p) = p.1 e is
+no-fault before l e is within other (inr p) = both_ways (goes_over before l.words) within p.1
+
+abbrev line_at : ℕ → List ℕ → Line
+line_at n t = record { number = n; words = parts 32 t }
+
+some-none : (e : Entry) → ◌≡◌ {A = Option Entry} None (Some e) → ⊥
+some-none e h = cc
+
+abbrev AreOutcomes : List (List ℕ) → ℕ → Type 0
+AreOutcomes ts n = (before : List Line) (d : Draft) → Tells before d → IsOutcome IsFault Precedes IsRead before (lines_from n ts) (read_all n d ts)
+
+over-outcome : (t : List ℕ) (ts : List (List ℕ)) (n : ℕ) → AreOutcomes ts (n + 1) → (before : List Line) (d : Draft) → Tells before d → (e : Entry) (over : Bool) → is_over d e ≡ over
+    → IsEntry before (parts 32 t) e
+    → IsOutcome IsFault Precedes IsRead before (line_at n t ∷ lines_from (n + 1) ts) (cond over (Err (TooMany n)) (read_all (n + 1) (drafted_with d e) ts >>= λ es. Ok (e ∷ es)))
+over-outcome t ts n more before d tells e true is entry =
+    stops before (line_at n t) ts (TooMany n) (inr (refl, sym (over-same before d (parts 32 t) e tells entry) ∙ is)) (over-first before (line_at n t) e entry)
+over-outcome t ts n more before d tells e false is entry =
+    let within : goes_over before (parts 32 t) ≡ false = sym (over-same before d (parts 32 t) e tells entry) ∙ is in
+    outcome-then IsFault Precedes IsRead before (line_at n t) (lines_from (n + 1) ts) (Ok (e ∷ [])) (read_all (n + 1) (drafted_with d e) ts) (in-order before (line_at n t) ts)
+    ((e, refl, entry, within), no-fault before (line_at n t) e entry within)
+    (more (before ++ line_at n t ∷ []) (drafted_with d e) (tells-more before d (line_at n t) e tells entry))
+
+entry-outcome : (t : List ℕ) (ts : List (List ℕ)) (n : ℕ) → AreOutcomes ts (n + 1) → (before : List Line) (d : Draft) → Tells before d → (r : Option Entry) → entry_of d t ≡ r
+    → IsOutcome IsFault Precedes IsRead before (line_at n t ∷ lines_from (n + 1) ts) (entry_then n d r (λ e. read_all (n + 1) (drafted_with d e) ts))
+entry-outcome t ts n more before d tells None is =
+    stops before (line_at n t) ts (BadLine n) (inl (refl, λ entry h. some-none entry (sym is ∙ entry-only before d t entry tells h))) (bad-first before (line_at n t))
+entry-outcome t ts n more before d tells (Some e) is = over-outcome t ts n more before d tells e (is_over d e) refl (entry-known before d t e tells is)
+
+line-outcome : (t : List ℕ) (ts : List (List ℕ)) (n : ℕ) → AreOutcomes ts (n + 1) → (before : List Line) (d : Draft) → Tells before d → (skip : Bool)
+    → IsOutcome IsFault Precedes IsRead before (cond skip (lines_from (n + 1) ts) (line_at n t ∷ lines_from (n + 1) ts))
+    (cond skip (read_all (n + 1) d ts) (entry_then n d (entry_of d t) (λ e. read_all (n + 1) (drafted_with d e) ts)))
+line-outcome t ts n more before d tells true = more before d tells
+line-outcome t ts n more before d tells false = entry-outcome t ts n more before d tells (entry_of d t) refl
+
+-- what reading lines answers is right
+read-outcome : (ts : List (List ℕ)) (n : ℕ) (before : List Line) (d : Draft) → Tells before d → IsOutcome IsFault Precedes IsRead before (lines_from n ts) (read_all n d ts)
+unfolding read_all
+read-outcome [] n before d tells = (refl, λ e h. fault-none IsFault before e h)
+read-outcome (t ∷ ts) n before d tells = line-outcome t ts n (read-outcome ts (n + 1)) before d tells (is_skipped t)
+
+-- all that is read are the entries of the lines
+all-entries : (ls before : List Line) (es : List Entry) → AreAll IsRead before ls es → AreEntries before ls es
+all-entries [] before es all = subst (AreEntries before []) (sym all) tt
+all-entries (l ∷ ls) before es all =
+    let read = all.2 in
+    let is : es ≡ read.0 ∷ all.1 = all.4 ∙ ap (λ (found : List Entry). found ++ all.1) read.1 in
+    subst (AreEntries before (l ∷ ls)) (sym is) (read.2, read.3, all-entries ls (before ++ l ∷ []) all.1 all.3)
+
+-- the entries of lines are read
+entries-read : (ts : List (List ℕ)) (n : ℕ) (before : List Line) (d : Draft) (es : List Entry) → Tells before d → AreEntries before (lines_from n ts) es → read_all n d ts ≡ Ok es
+unfolding read_all
+entries-read [] n before d [] tells are = refl
+entries-read [] n before d (e ∷ es) tells are = absurd are
+entries-read (t ∷ ts) n before d es tells are = by_skip (entries-read ts (n + 1)) (is_skipped t) es are
+  where
+    by_skip : ((front : List Line) (x : Draft) (more : List Entry) → Tells front x → AreEntries front (lines_from (n + 1) ts) more → read_all (n + 1) x ts ≡ Ok more)
+        → (skip : Bool) (all : List Entry) → AreEntries before (cond skip (lines_from (n + 1) ts) (line_at n t ∷ lines_from (n + 1) ts)) all
+        → cond skip (read_all (n + 1) d ts) (entry_then n d (entry_of d t) (λ e. read_all (n + 1) (drafted_with d e) ts)) ≡ Ok all
+    by_skip later true all h = later before d all tells h
+    by_skip later false [] h = absurd h
+    by_skip later false (e ∷ more) h =
+        let found = entry-only before d t e tells h.0 in
+        let within : is_over d e ≡ false = over-same before d (parts 32 t) e tells h.0 ∙ h.1 in
+        let rest = later (before ++ line_at n t ∷ []) (drafted_with d e) more (tells-more before d (line_at n t) e tells h.0) h.2 in
+        rw (found, within, rest) refl
+
+-- the draft that entries make
+
+abbrev drafted_all : Draft → List Entry → Draft
+drafted_all d [] = d
+drafted_all d (e ∷ es) = drafted_all (drafted_with d e) es
+
+drafted-admission : (es : List Entry) (d : Draft) → (drafted_all d es).admission ≡ with_entries d.admission es
+drafted-admission [] d = refl
+drafted-admission (e ∷ es) d = drafted-admission es (drafted_with d e)
+
+record Follows (before ls : List Line) (d : Draft) : Type 0 where
+  tells : Tells (before ++ ls) d
+  formed : IsWellFormed d.admission
+
+follows-all : (ls before : List Line) (d : Draft) (es : List Entry) → Tells before d → IsWellFormed d.admission → AreEntries before ls es → Follows before ls (drafted_all d es)
+follows-all [] before d [] tells formed are = record { tells = subst (λ (x : List Line). Tells x d) (sym (append-nil before)) tells; formed = formed }
+follows-all [] before d (e ∷ es) tells formed are = absurd are
+follows-all (l ∷ ls) before d [] tells formed are = absurd are
+follows-all (l ∷ ls) before d (e ∷ es) tells formed are =
+    let within : is_over d e ≡ false = over-same before d l.words e tells are.0 ∙ are.1 in
+    let rest = follows-all ls (before ++ l ∷ []) (drafted_with d e) es (tells-more before d l e tells are.0) (formed-more before d l.words e tells are.0 within formed) are.2 in
+    record { tells = subst (λ (x : List Line). Tells x (drafted_all (drafted_with d e) es)) (append_assoc before (l ∷ []) ls) rest.tells; formed = rest.formed }
+
+-- the code's numbers of lines are cut
+
+abbrev told : Draft → Result (List Entry) AdmitRefusal → Result Draft AdmitRefusal
+told d (Ok es) = Ok (drafted_all d es)
+told d (Err e) = Err (given e)
+
+told-cons : (d : Draft) (e : Entry) (r : Result (List Entry) AdmitRefusal) → told d (r >>= λ es. Ok (e ∷ es)) ≡ told (drafted_with d e) r
+told-cons d e (Ok es) = refl
+told-cons d e (Err x) = refl
+
+next-number : (n : ℕ) → next_line (line_number n) ≡ line_number (n + 1)
+next-number n = omega arith
+
+abbrev AreTold : List (List ℕ) → ℕ → Type 0
+AreTold ts n = (d : Draft) → behind_lines (line_number n) d ts ≡ told d (read_all (n + 1) d ts)
+
+behind-over : (ts : List (List ℕ)) (n : ℕ) (d : Draft) → AreTold ts (n + 1) → (e : Entry) (over : Bool)
+    → ((cond over (Err (TooMany (line_number (n + 1)))) (Ok (drafted_with d e))) >>= λ x. behind_lines (line_number (n + 1)) x ts)
+    ≡ told d (cond over (Err (TooMany (n + 1))) (read_all (n + 1 + 1) (drafted_with d e) ts >>= λ es. Ok (e ∷ es)))
+behind-over ts n d more e true = refl
+behind-over ts n d more e false = more (drafted_with d e) ∙ sym (told-cons d e (read_all (n + 1 + 1) (drafted_with d e) ts))
+
+behind-entry : (ts : List (List ℕ)) (n : ℕ) (d : Draft) → AreTold ts (n + 1) → (r : Option Entry)
+    → (judged (line_number (n + 1)) d r >>= λ x. behind_lines (line_number (n + 1)) x ts) ≡ told d (entry_then (n + 1) d r (λ e. read_all (n + 1 + 1) (drafted_with d e) ts))
+behind-entry ts n d more None = refl
+behind-entry ts n d more (Some e) = behind-over ts n d more e (is_over d e)
+
+behind-skip : (t : List ℕ) (ts : List (List ℕ)) (n : ℕ) (d : Draft) → AreTold ts (n + 1) → (skip : Bool)
+    → ((cond skip (Ok d) (judged (line_number (n + 1)) d (entry_of d t))) >>= λ x. behind_lines (line_number (n + 1)) x ts)
+    ≡ told d (cond skip (read_all (n + 1 + 1) d ts) (entry_then (n + 1) d (entry_of d t) (λ e. read_all (n + 1 + 1) (drafted_with d e) ts)))
+behind-skip t ts n d more true = more d
+behind-skip t ts n d more false = behind-entry ts n d more (entry_of d t)
+
+behind-all : (ts : List (List ℕ)) (n : ℕ) (d : Draft) → behind_lines (line_number n) d ts ≡ told d (read_all (n + 1) d ts)
+unfolding behind_lines behind_line read_all
+behind-all [] n d = refl
+behind-all (t ∷ ts) n d =
+    ap (λ (k : ℕ). behind_line k d t >>= λ e. behind_lines k e ts) (next-number n) ∙ behind-skip t ts n d (behind-all ts (n + 1)) (is_skipped t)
+
+-- the whole
+
+abbrev entries_of : List ℕ → Result (List Entry) AdmitRefusal
+entries_of text = read_all 1 no_draft (parts 10 text)
+
+whole : (text : List ℕ) → admission_of text ≡ (told no_draft (entries_of text) >>= finished)
+unfolding admission_of
+whole text = ap (λ (r : Result Draft AdmitRefusal). r >>= finished) (behind-all (parts 10 text) 0 no_draft)
+
+outcome : (text : List ℕ) → IsOutcome IsFault Precedes IsRead [] (lines_of text) (entries_of text)
+outcome text = read-outcome (parts 10 text) 1 [] no_draft tells-none
+
+-- what was answered is right
+abbrev pub IsRight : List ℕ → Result Admission AdmitRefusal → Type 0
+IsRight text (Ok a) = IsAdmissionText text a × IsWellFormed a
+IsRight text (Err e) = IsRefused text e
+
+finish : (text : List ℕ) (es : List Entry) (lived : Bool) → AreEntries [] (lines_of text) es → ((e : AdmitRefusal) → HasFault IsFault [] (lines_of text) e → ⊥)
+    → (drafted_all no_draft es).lived ≡ lived → IsRight text (cond lived (Ok (drafted_all no_draft es).admission) (Err NoLive))
+finish text es true are sound is =
+    let f = follows-all (lines_of text) [] no_draft es tells-none formed-none are in
+    (record { entries = es; read = are; is_live = sym f.tells.lived ∙ is; means = drafted-admission es no_draft }, f.formed)
+finish text es false are sound is =
+    let f = follows-all (lines_of text) [] no_draft es tells-none formed-none are in
+    Dead sound (sym f.tells.lived ∙ is) refl
+
+right-by : (text : List ℕ) (r : Result (List Entry) AdmitRefusal) → IsOutcome IsFault Precedes IsRead [] (lines_of text) r → IsRight text (told no_draft r >>= finished)
+right-by text (Ok es) out = finish text es (drafted_all no_draft es).lived (all-entries (lines_of text) [] es out.0) out.1 refl
+right-by text (Err e) out = Faulty e out refl
+
+admission-right : (text : List ℕ) → IsRight text (admission_of text)
+admission-right text = subst (IsRight text) (sym (whole text)) (right-by text (entries_of text) (outcome text))
+
+-- an admission that a text spells is what is read of it
+admission-only : (text : List ℕ) (a : Admission) → IsAdmissionText text a → admission_of text ≡ Ok a
+admission-only text a is =
+    let read = entries-read (parts 10 text) 1 [] no_draft is.entries tells-none is.read in
+    let f = follows-all (lines_of text) [] no_draft is.entries tells-none formed-none is.read in
+    let lived : (drafted_all no_draft is.entries).lived ≡ true = f.tells.lived ∙ is.is_live in
+    let means : (drafted_all no_draft is.entries).admission ≡ a = drafted-admission is.entries no_draft ∙ sym is.means in
+    whole text ∙ ap (λ (r : Result (List Entry) AdmitRefusal). told no_draft r >>= finished) read
+    ∙ ap (λ (t : Bool). cond t (Ok (drafted_all no_draft is.entries).admission) (Err NoLive)) lived ∙ ap (λ (x : Admission). Ok x) means
+
+-- faults that precede each other are one
+
+bad-bad : (m n : ℕ) → Precedes (BadLine m) (BadLine n) → Precedes (BadLine n) (BadLine m) → m ≡ n
+bad-bad m n (inl a) (inl b) = absurd (omega arith)
+bad-bad m n (inl a) (inr b) = absurd (omega (arith, b.0))
+bad-bad m n (inr a) b = a.0
+
+many-many : (m n : ℕ) → Precedes (TooMany m) (TooMany n) → Precedes (TooMany n) (TooMany m) → m ≡ n
+many-many m n (inl a) (inl b) = absurd (omega arith)
+many-many m n (inl a) (inr b) = absurd (omega (arith, b.0))
+many-many m n (inr a) b = a.0
+
+bad-many : (m n : ℕ) → Precedes (BadLine m) (TooMany n) → Precedes (TooMany n) (BadLine m) → ⊥
+bad-many m n (inl a) (inl b) = omega arith
+bad-many m n (inl a) (inr b) = omega (arith, b.0)
+bad-many m n (inr a) (inl b) = omega (arith, a.0)
+bad-many m n (inr a) (inr b) = omega (arith, b.1)
+
+carried : (a b x y : AdmitRefusal) → a ≡ x → b ≡ y → Precedes a b → Precedes x y
+carried a b x y p q h = subst (λ (u : AdmitRefusal). Precedes u y) p (subst (λ (v : AdmitRefusal). Precedes a v) q h)
+
+fault-same : (front : List Line) (ls : List Line) (a b : AdmitRefusal) → HasFault IsFault front ls a → HasFault IsFault front ls b → Precedes a b → Precedes b a → a ≡ b
+fault-same front ls a b x y one two = by_cases x.wrong y.wrong
+  where
+    by_cases : IsFault (front ++ x.before) x.item a → IsFault (front ++ y.before) y.item b → a ≡ b
+    by_cases (inl p) (inl q) =
+        let same = bad-bad x.item.number y.item.number (carried a b _ _ p.0 q.0 one) (carried b a _ _ q.0 p.0 two) in
+        p.0 ∙ ap (λ (n : ℕ). BadLine n) same ∙ sym q.0
+    by_cases (inl p) (inr q) = absurd (bad-many x.item.number y.item.number (carried a b _ _ p.0 q.0 one) (carried b a _ _ q.0 p.0 two))
+    by_cases (inr p) (inl q) = absurd (bad-many y.item.number x.item.number (carried b a _ _ q.0 p.0 two) (carried a b _ _ p.0 q.0 one))
+    by_cases (inr p) (inr q) =
+        let same = many-many x.item.number y.item.number (carried a b _ _ p.0 q.0 one) (carried b a _ _ q.0 p.0 two) in
+        p.0 ∙ ap (λ (n : ℕ). TooMany n) same ∙ sym q.0
+
+-- a refusal of a text is what is answered
+refused-by : (text : List ℕ) (e : AdmitRefusal) (r : Result (List Entry) AdmitRefusal) → IsOutcome IsFault Precedes IsRead [] (lines_of text) r → IsRefused text e
+    → (told no_draft r >>= finished) ≡ Err e
+refused-by text e (Ok es) out (Faulty first is means) = absurd (out.1 first is.has)
+refused-by text e (Ok es) out (Dead sound dead means) =
+    let are = all-entries (lines_of text) [] es out.0 in
+    let f = follows-all (lines_of text) [] no_draft es tells-none formed-none are in
+    ap (λ (t : Bool). cond t (Ok (drafted_all no_draft es).admission) (Err NoLive)) (f.tells.lived ∙ dead) ∙ ap (λ (x : AdmitRefusal). Err x) (sym means)
+refused-by text e (Err f) out (Faulty first is means) =
+    let same = first-once IsFault Precedes [] (lines_of text) (fault-same [] (lines_of text)) f first out is in
+    ap (λ (x : AdmitRefusal). Err (given x)) same ∙ ap (λ (x : AdmitRefusal). Err x) (sym means)
+refused-by text e (Err f) out (Dead sound dead means) = absurd (sound f out.has)
+
+admission-refused : (text : List ℕ) (e : AdmitRefusal) → IsRefused text e → admission_of text ≡ Err e
+admission-refused text e refused = whole text ∙ refused-by text e (entries_of text) (outcome text) refused
+
+-- the answer, where memory may be wanted
+
+-- what is answered is so
+pub reads-from : (text : List ℕ) (result : Result Admission AdmitRefusal) → Gives result (admission_of text) → Reads text result
+reads-from text (Ok a) gives = (subst (IsRight text) gives (admission-right text)).0
+reads-from text (Err (BadLine n)) gives = subst (IsRight text) gives (admission-right text)
+reads-from text (Err (TooMany n)) gives = subst (IsRight text) gives (admission-right text)
+reads-from text (Err NoLive) gives = subst (IsRight text) gives (admission-right text)
+reads-from text (Err Memory) gives = tt
+
+-- what is so is answered
+pub admission-gives : (text : List ℕ) (result : Result Admission AdmitRefusal) → Gives result (admission_of text) → (a : Admission) → IsAdmissionText text a → Gives result (Ok a)
+admission-gives text result gives a is = subst (Gives result) (admission-only text a is) gives
+
+pub refused-gives : (text : List ℕ) (result : Result Admission AdmitRefusal) → Gives result (admission_of text) → (e : AdmitRefusal) → IsRefused text e → Gives result (Err e)
+refused-gives text result gives e is = subst (Gives result) (admission-refused text e is) gives
+
+-- what is read is well formed
+pub reads-formed : (text : List ℕ) (result : Result Admission AdmitRefusal) → Gives result (admission_of text) → IfOk result IsWellFormed
+reads-formed text (Ok a) gives = (subst (IsRight text) gives (admission-right text)).1
+reads-formed text (Err e) gives = tt

@@ -1,0 +1,22 @@
+//! Reads admissions from text.
+//!
+//! `read_admission` answers with the admission that a text spells, and with the first fault of a text
+//! that spells none.
+//!
+//! ```text
+//! let admission = read_admission(alloc, b"admit 1\nregion a %rdi 16 read\nlive %eax\n")?;
+//! ```
+#![tactic(auto)]
+
+mod cuts;
+mod entry;
+mod expr;
+mod line;
+mod number;
+mod read;
+mod refusal;
+mod register;
+
+pub use number::{hex_digit_value, is_hex_digit};
+pub use read::read_admission;
+pub use refusal::AdmitRefusal;
