@@ -5,7 +5,8 @@ use admission_text::read_admission;
 use machine::Region;
 use std::test::Fail;
 
-const SUM: &[u8] = b"admit 1\nregion a %rdi 4*%rsi read\nrequire %rsi <= 4096\nrequire %rsi mod 4 = 0\nlive %eax";
+const SUM: &[u8] =
+    b"admit 1\nregion a %rdi 4*%rsi read\nrequire %rsi <= 4096\nrequire %rsi mod 4 = 0\nlive %eax";
 
 /// Registers with rdi, rsi and rsp as given and all others 0.
 fn registers(rdi: u64, rsi: u64, rsp: u64) -> [u64; 16] {
@@ -46,7 +47,10 @@ fn the_first_fault_is_told(rt: HostRuntime) -> Result<(), Fail> {
         (b"".as_slice(), NoLive),
         (b"# a\n\n".as_slice(), NoLive),
         (b"admit 1\nstack 8\n".as_slice(), NoLive),
-        (b"admit 1\nregion a %rdi 4*%esi read\nlive".as_slice(), BadLine(2)),
+        (
+            b"admit 1\nregion a %rdi 4*%esi read\nlive".as_slice(),
+            BadLine(2),
+        ),
         (b"# \xff\n\nadmit 2\nlive".as_slice(), BadLine(3)),
         (b"admit 1\r\nlive".as_slice(), BadLine(1)),
         (b"live\nadmit 1".as_slice(), BadLine(1)),
@@ -58,18 +62,42 @@ fn the_first_fault_is_told(rt: HostRuntime) -> Result<(), Fail> {
         (b"admit 1\nstack 8\nstack 8\nlive".as_slice(), BadLine(3)),
         (b"admit 1\nstack 12\nlive".as_slice(), BadLine(2)),
         (b"admit 1\nstack 4104\nlive".as_slice(), BadLine(2)),
-        (b"admit 1\nregion a 0 1 read\nregion a 0 1 read\nlive".as_slice(), BadLine(3)),
-        (b"admit 1\nregion a 0 1 read\napart a a\nlive".as_slice(), BadLine(3)),
-        (b"admit 1\napart a b\nregion a 0 1 read\nregion b 0 1 read\nlive".as_slice(), BadLine(2)),
+        (
+            b"admit 1\nregion a 0 1 read\nregion a 0 1 read\nlive".as_slice(),
+            BadLine(3),
+        ),
+        (
+            b"admit 1\nregion a 0 1 read\napart a a\nlive".as_slice(),
+            BadLine(3),
+        ),
+        (
+            b"admit 1\napart a b\nregion a 0 1 read\nregion b 0 1 read\nlive".as_slice(),
+            BadLine(2),
+        ),
         (b"admit 1\nregion A 0 1 read\nlive".as_slice(), BadLine(2)),
-        (b"admit 1\nregion abcdefghijklmnopq 0 1 read\nlive".as_slice(), BadLine(2)),
+        (
+            b"admit 1\nregion abcdefghijklmnopq 0 1 read\nlive".as_slice(),
+            BadLine(2),
+        ),
         (b"admit 1\nrequire -1 = 0\nlive".as_slice(), BadLine(2)),
         (b"admit 1\nrequire 01 = 0\nlive".as_slice(), BadLine(2)),
         (b"admit 1\nrequire 0x = 0\nlive".as_slice(), BadLine(2)),
-        (b"admit 1\nrequire 18446744073709551616 = 0\nlive".as_slice(), BadLine(2)),
-        (b"admit 1\nrequire 1+1+1+1+1+1+1+1+1 = 9\nlive".as_slice(), BadLine(2)),
-        (b"admit 1\nrequire %rdi mod 3 = 0\nlive".as_slice(), BadLine(2)),
-        (b"admit 1\nrequire %rdi mod 4 = 4\nlive".as_slice(), BadLine(2)),
+        (
+            b"admit 1\nrequire 18446744073709551616 = 0\nlive".as_slice(),
+            BadLine(2),
+        ),
+        (
+            b"admit 1\nrequire 1+1+1+1+1+1+1+1+1 = 9\nlive".as_slice(),
+            BadLine(2),
+        ),
+        (
+            b"admit 1\nrequire %rdi mod 3 = 0\nlive".as_slice(),
+            BadLine(2),
+        ),
+        (
+            b"admit 1\nrequire %rdi mod 4 = 4\nlive".as_slice(),
+            BadLine(2),
+        ),
         (b"admit 1\nrequire %rdi  = 0\nlive".as_slice(), BadLine(2)),
         (
             b"admit 1\nscratch 0 1\nscratch 0 1\nscratch 0 1\nscratch 0 1\nscratch 0 1\nbogus".as_slice(),
@@ -85,7 +113,11 @@ fn the_first_fault_is_told(rt: HostRuntime) -> Result<(), Fail> {
         ),
     ];
     for (k, (text, refusal)) in cases.iter().enumerate() {
-        assert_eq!(rt; read_admission(alloc, *text).err(), Some(*refusal), "at {k}");
+        assert_eq!(rt;
+            read_admission(alloc, *text).err(),
+            Some(*refusal),
+            "at {k}"
+        );
     }
     Ok(())
 }
@@ -95,7 +127,8 @@ fn entry_registers_are_admitted(rt: HostRuntime) -> Result<(), Fail> {
     let alloc = rt.alloc();
     let whole = b"admit 1\nregion a %rdi %rsi write\nstack 16\nlive".as_slice();
     let pair = b"admit 1\nregion a %rdi 8 read\nregion b %rsi 8 read\napart a b\nlive".as_slice();
-    let signed = b"admit 1\nrequire %rdi s< %rsi\nrequire %rdi-%rsi = 0xFFFFFFFFFFFFFFFF\nlive".as_slice();
+    let signed =
+        b"admit 1\nrequire %rdi s< %rsi\nrequire %rdi-%rsi = 0xFFFFFFFFFFFFFFFF\nlive".as_slice();
     let cases = [
         (SUM, registers(4096, 4, 0), true),
         (SUM, registers(4096, 3, 0), false),
@@ -129,7 +162,11 @@ fn regions_and_scratch_lines_have_values(rt: HostRuntime) -> Result<(), Fail> {
     let found = read_admission(alloc, text)?;
     let regs = registers(8, 4, 0);
     assert!(rt; found.regions.len() == 1 && found.scratch.len() == 1);
-    let region = Region { base: 0xffff_ffff_ffff_fff8, len: 9, write: true };
+    let region = Region {
+        base: 0xffff_ffff_ffff_fff8,
+        len: 9,
+        write: true,
+    };
     assert_eq!(rt; found.region_at(&regs, 0), region);
     assert_eq!(rt; found.scratch_at(&regs, 0), (4, 3));
     assert_eq!(rt; found.live.len(), 2);
