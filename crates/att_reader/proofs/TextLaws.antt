@@ -28,7 +28,7 @@ use Rattle.att_reader.proofs.LoopSteps.{unless-map, told-err, told-ok}
 -- what was read of a text's items is right
 abbrev IsRightText : List ℕ → List ℕ → Result (List Insn) Fault → Type 0
 IsRightText text name (Ok insns) = body.IsFunction IsBadStatement IsInsnText name (items_of_text text) insns
-IsRightText text name (Err e) = body.IsRefused IsBadStatement IsInsnText name (length (lines text)) (items_of_text text) e
+IsRightText text name (Err e) = body.AreRefused IsBadStatement IsInsnText name (length (lines text)) (items_of_text text) e
 
 right_by : (text name : List ℕ) (r : Result (List Insn) Fault) → laws.IsRight statements-read name (length (lines text)) (items_of_text text) r → IsRightText text name r
 right_by text name (Ok insns) h = h
@@ -81,7 +81,7 @@ text-differs text name f e one (Long utf8 k long is) = short-differs text k one.
 text-differs text name f e one (Faulty legible items holds fault refused is) =
     let same = same_items text items one.items holds one.holds in
     laws.refused-differs statements-read name (length (lines text)) one.items fault f.insns
-    (subst (λ (x : List Item). body.IsRefused IsBadStatement IsInsnText name (length (lines text)) x fault) same refused) one.function
+    (subst (λ (x : List Item). body.AreRefused IsBadStatement IsInsnText name (length (lines text)) x fault) same refused) one.function
 
 -- a text is refused in one way
 pub refused-once : (text name : List ℕ) (a b : ReadRefusal) → IsRefused text name a → IsRefused text name b → a ≡ b
@@ -95,7 +95,7 @@ refused-once text name a b (Faulty legible items holds fault refused is) (NoText
 refused-once text name a b (Faulty legible items holds fault refused is) (Long utf8 k long too) = absurd (short-differs text k legible.short long)
 refused-once text name a b (Faulty legible items holds fault refused is) (Faulty legible_too others hold wrong refused_too too) =
     let same = same_items text items others holds hold in
-    let moved = subst (λ (x : List Item). body.IsRefused IsBadStatement IsInsnText name (length (lines text)) x fault) same refused in
+    let moved = subst (λ (x : List Item). body.AreRefused IsBadStatement IsInsnText name (length (lines text)) x fault) same refused in
     let once = laws.refused-once statements-read name (length (lines text)) others fault wrong moved refused_too in
     is ∙ ap (λ (f : Fault). refusal f.line f.kind) once ∙ sym too
 

@@ -1,5 +1,5 @@
--- Function text: the function that a text spells under a name, or why the text is refused. Lines are in text_lines, bodies and
--- their faults in function_body, single statements in att_statements.
+-- Function text: the function that a text spells under a name, or why the text is refused. Lines are in text_lines,
+-- bodies and their faults in function_body, single statements in att_statements.
 use Rattle.std.specs.Prelude.{◌≡◌, ℕ, false, List, [], length}
 use Rattle.std.specs.List.{list_any}
 use Rattle.std.specs.Str.{IsUtf8}
@@ -33,4 +33,5 @@ pub data IsRefused (text name : List ℕ) (e : ReadRefusal) : Type 0 where
   NoText : (k : ℕ) → IsNotUtf8 text k → e ≡ refusal k NotUtf8 → IsRefused text name e
   Long : IsUtf8 text → (k : ℕ) → IsLongLine text k → e ≡ refusal k LineLong → IsRefused text name e
   Faulty : IsLegible text → (items : List Item) → AreItems text items → (fault : Fault)
-      → body.IsRefused IsBadStatement IsInsnText name (length (lines text)) items fault → e ≡ refusal fault.line fault.kind → IsRefused text name e
+      → body.AreRefused IsBadStatement IsInsnText name (length (lines text)) items fault
+      → e ≡ refusal fault.line fault.kind → IsRefused text name e

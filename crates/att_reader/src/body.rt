@@ -90,8 +90,10 @@ fn read_next(
     labels: &BodyLabels<'_, '_>,
 ) -> Result<(), ReadRefusal>
     requires { vec_len insns.old ≡ count_by is_code (take place (labelled labels.now)) }
-    ensures grows { OnOk result (Grows (item_in (labelled labels.now) (take place (labelled labels.now)) (seen item.now)) insns.old.items insns.new.items) }
-    ensures stops { IfErr result (λ e. UnlessMemory e.kind e.line (told (item_in (labelled labels.now) (take place (labelled labels.now)) (seen item.now)) ≡ Err e)) }
+    ensures grows { OnOk result (Grows (item_in (labelled labels.now) (take place (labelled labels.now)) (seen item.now))
+        insns.old.items insns.new.items) }
+    ensures stops { IfErr result (λ e. UnlessMemory e.kind e.line
+        (told (item_in (labelled labels.now) (take place (labelled labels.now)) (seen item.now)) ≡ Err e)) }
 {
     if let Some(insn) = read_item(item, place, insns.len(), labels)? {
         insns.push(insn)?;

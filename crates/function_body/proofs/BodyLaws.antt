@@ -18,7 +18,7 @@ use Rattle.text_lines.specs.Statements.{FindsTargets, Reads}
 use Rattle.text_lines.proofs.TextItems as order
 use Rattle.function_body.specs.Body.{is_label, is_code, IsExtent, IsTarget}
 use Rattle.function_body.specs.Faults.{Fault, fault, IsFault, Precedes, HasBodyFault, IsFirstFault}
-use Rattle.function_body.specs.Functions.{Spells, AreInsns, Leaves, last_line, IsFunction, IsRefused, Missing, Faulty, Open}
+use Rattle.function_body.specs.Functions.{Spells, AreInsns, Leaves, last_line, IsFunction, AreRefused, Missing, Faulty, Open}
 use Rattle.function_body.specs.Reading.{target_of, extent_of, insns_of, is_leaving, leaves, closed_by, read_extent, insns_in}
 use Rattle.function_body.proofs.Extents.{IsFoundExtent, extent-known, extent-only, extent-named}
 use Rattle.function_body.proofs.Targets.{finds-targets}
@@ -119,7 +119,7 @@ module _ {r : (List ℕ → Option ℕ) → List ℕ → ℕ → Result Insn Rea
   -- what was answered is right
   abbrev pub IsRight : List ℕ → ℕ → List Item → Result (List Insn) Fault → Type 0
   IsRight name lines items (Ok insns) = IsFunction IsBad IsInsn name items insns
-  IsRight name lines items (Err e) = IsRefused IsBad IsInsn name lines items e
+  IsRight name lines items (Err e) = AreRefused IsBad IsInsn name lines items e
 
   reads_body : (body : List Item) → Reads (r (target_of body)) (IsBad (IsTarget body)) (IsInsn (IsTarget body))
   reads_body body = reads (target_of body) (IsTarget body) (finds-targets body)
@@ -164,7 +164,7 @@ module _ {r : (List ℕ → Option ℕ) → List ℕ → ℕ → Result Insn Rea
       insns-once two.body a b (subst (λ (x : List Item). AreInsns (IsInsn (IsTarget x)) x a) same.0 one.read) two.read
 
   -- items that are refused spell none
-  pub refused-differs : (name : List ℕ) (lines : ℕ) (items : List Item) (e : Fault) (insns : List Insn) → IsRefused IsBad IsInsn name lines items e
+  pub refused-differs : (name : List ℕ) (lines : ℕ) (items : List Item) (e : Fault) (insns : List Insn) → AreRefused IsBad IsInsn name lines items e
       → IsFunction IsBad IsInsn name items insns → ⊥
   refused-differs name lines items e insns (Missing none is) f = extent-named name items f.body f.after f.extent none
   refused-differs name lines items e insns (Faulty body after extent first) f =
@@ -176,7 +176,7 @@ module _ {r : (List ℕ → Option ℕ) → List ℕ → ℕ → Result Insn Rea
       open_end (subst Leaves (sym insns_same) f.leaves)
 
   -- and are refused in one way
-  pub refused-once : (name : List ℕ) (lines : ℕ) (items : List Item) (a b : Fault) → IsRefused IsBad IsInsn name lines items a → IsRefused IsBad IsInsn name lines items b → a ≡ b
+  pub refused-once : (name : List ℕ) (lines : ℕ) (items : List Item) (a b : Fault) → AreRefused IsBad IsInsn name lines items a → AreRefused IsBad IsInsn name lines items b → a ≡ b
   refused-once name lines items a b (Missing none is) (Missing gone too) = is ∙ sym too
   refused-once name lines items a b (Missing none is) (Faulty body after extent first) = absurd (extent-named name items body after extent none)
   refused-once name lines items a b (Missing none is) (Open body after insns extent sound read open_end too) = absurd (extent-named name items body after extent none)

@@ -54,7 +54,8 @@ pub record IsExtent (name : List ℕ) (items body after : List Item) : Type 0 wh
   pub named : is_label name start ≡ true
   pub first : list_any (is_label name) before ≡ false
   pub inside : list_any (ends_body name) rest ≡ false
-  pub ended : (after ≡ []) ⊎ ((ending : Item) × (more : List Item) × (after ≡ ending ∷ more) × (ends_body name ending ≡ true))
+  pub ended : (after ≡ [])
+      ⊎ ((ending : Item) × (more : List Item) × (after ≡ ending ∷ more) × (ends_body name ending ≡ true))
 
 -- A jump to the name leads to the instruction at this place: as many stand before the first label of that name, and one
 -- stands behind it. (A place above 2^32 - 1, which no function has, is given as that.)

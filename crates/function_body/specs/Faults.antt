@@ -20,15 +20,16 @@ fault line kind = record { line = line; kind = kind }
 -- the directives that put data into a section
 abbrev pub data_words : List (List ℕ)
 data_words =
-    codes ".byte" ∷ codes ".word" ∷ codes ".short" ∷ codes ".value" ∷ codes ".long" ∷ codes ".int" ∷ codes ".quad" ∷ codes ".octa"
-    ∷ codes ".ascii" ∷ codes ".asciz" ∷ codes ".string" ∷ codes ".zero" ∷ codes ".skip" ∷ codes ".space" ∷ codes ".fill"
+    codes ".byte" ∷ codes ".word" ∷ codes ".short" ∷ codes ".value" ∷ codes ".long" ∷ codes ".int" ∷ codes ".quad"
+    ∷ codes ".octa" ∷ codes ".ascii" ∷ codes ".asciz" ∷ codes ".string" ∷ codes ".zero" ∷ codes ".skip"
+    ∷ codes ".space" ∷ codes ".fill"
     ∷ codes ".float" ∷ codes ".double" ∷ []
 
 unfoldable pub is_data : List ℕ → Bool
 is_data x = list_any (λ word. bytes_eq word (prefix_of is_solid x)) data_words
 
--- A fault of an item of a body behind those before it. IsBad says what is wrong with the text of an instruction. A label
--- that stands before; data; a bad instruction; one behind 4,096 others.
+-- A fault of an item of a body behind those before it. IsBad says what is wrong with the text of an instruction.
+-- A label that stands before; data; a bad instruction; one behind 4,096 others.
 abbrev pub IsFault : (List ℕ → ReadKind → Type 0) → List Item → Item → Fault → Type 0
 IsFault IsBad before (Label name k) e = (e ≡ fault k TwiceLabel) × (list_any (is_label name) before ≡ true)
 IsFault IsBad before (Statement x k) e =

@@ -8,7 +8,8 @@ use Rattle.function_body.specs.declared.labels.First.{First}
 -- the first label of a name among items, which stand from place k on behind n instructions
 unfoldable pub first_from : ℕ → ℕ → List Item → List ℕ → Option First
 first_from k n [] name = None
-first_from k n (i ∷ is) name = if is_label name i then Some (record { item = k; insns = n }) else first_from (k + 1) (n + count_of i) is name
+first_from k n (i ∷ is) name =
+    if is_label name i then Some (record { item = k; insns = n }) else first_from (k + 1) (n + count_of i) is name
 
 -- where a label leads, if instructions stand behind it: n are in the body
 abbrev pub target_by : ℕ → Option First → Option ℕ

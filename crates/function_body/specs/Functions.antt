@@ -35,9 +35,11 @@ line_of (Statement x k) = k
 -- The last line of a body: the text's last one, or the one before the item that ends it, unless that shares its line.
 abbrev pub last_line : ℕ → List Item → List Item → ℕ
 last_line lines body [] = lines
-last_line lines body (ending ∷ more) = if list_any (λ i. line_of i == line_of ending) body then line_of ending else line_of ending - 1
+last_line lines body (ending ∷ more) =
+    if list_any (λ i. line_of i == line_of ending) body then line_of ending else line_of ending - 1
 
-module _ (IsBad : (List ℕ → ℕ → Type 0) → List ℕ → ReadKind → Type 0) (IsInsn : (List ℕ → ℕ → Type 0) → List ℕ → ℕ → Insn → Type 0) (name : List ℕ) where
+module _ (IsBad : (List ℕ → ℕ → Type 0) → List ℕ → ReadKind → Type 0)
+    (IsInsn : (List ℕ → ℕ → Type 0) → List ℕ → ℕ → Insn → Type 0) (name : List ℕ) where
   -- the function of this name has these instructions
   pub record IsFunction (items : List Item) (insns : List Insn) : Type 0 where
     pub body : List Item
@@ -47,10 +49,13 @@ module _ (IsBad : (List ℕ → ℕ → Type 0) → List ℕ → ReadKind → Ty
     pub read : AreInsns (IsInsn (IsTarget body)) body insns
     pub leaves : Leaves insns
 
-  -- the items of a text of so many lines are refused: no label of the name, or a fault, or else the last instruction goes on
-  pub data IsRefused (lines : ℕ) (items : List Item) (e : Fault) : Type 0 where
-    Missing : list_any (is_label name) items ≡ false → e ≡ fault 0 NoFunction → IsRefused lines items e
-    Faulty : (body after : List Item) → IsExtent name items body after → IsFirstFault (IsBad (IsTarget body)) body e → IsRefused lines items e
+  -- the items of a text of so many lines are refused: no label has the name, or there is a fault, or else the last
+  -- instruction goes on
+  pub data AreRefused (lines : ℕ) (items : List Item) (e : Fault) : Type 0 where
+    Missing : list_any (is_label name) items ≡ false → e ≡ fault 0 NoFunction → AreRefused lines items e
+    Faulty : (body after : List Item) → IsExtent name items body after
+        → IsFirstFault (IsBad (IsTarget body)) body e → AreRefused lines items e
     Open : (body after : List Item) (insns : List Insn) → IsExtent name items body after
-        → ((other : Fault) → HasBodyFault (IsBad (IsTarget body)) body other → ⊥) → AreInsns (IsInsn (IsTarget body)) body insns
-        → (Leaves insns → ⊥) → e ≡ fault (last_line lines body after) FallsOff → IsRefused lines items e
+        → ((other : Fault) → HasBodyFault (IsBad (IsTarget body)) body other → ⊥)
+        → AreInsns (IsInsn (IsTarget body)) body insns
+        → (Leaves insns → ⊥) → e ≡ fault (last_line lines body after) FallsOff → AreRefused lines items e

@@ -41,7 +41,8 @@ count_of i = if is_code i then 1 else 0
 unfoldable pub target_from : ℕ → List Item → List ℕ → Option ℕ
 target_from n [] name = None
 target_from n (i ∷ is) name =
-    if is_label name i then (if list_any is_code is then Some (min n (2 ^ 32 - 1)) else None) else target_from (n + count_of i) is name
+    if is_label name i then (if list_any is_code is then Some (min n (2 ^ 32 - 1)) else None)
+    else target_from (n + count_of i) is name
 
 -- where a jump to the name leads in a body
 unfoldable pub target_of : List Item → List ℕ → Option ℕ
@@ -81,10 +82,12 @@ abbrev pub closed_by : ℕ → List Item → List Item → List Insn → Result 
 closed_by lines body after insns = if leaves insns then Ok insns else Err (fault (last_line lines body after) FallsOff)
 
 -- what a body gives
-abbrev pub read_extent : ((List ℕ → Option ℕ) → List ℕ → ℕ → Result Insn ReadKind) → ℕ → Option (List Item × List Item) → Result (List Insn) Fault
+abbrev pub read_extent : ((List ℕ → Option ℕ) → List ℕ → ℕ → Result Insn ReadKind)
+    → ℕ → Option (List Item × List Item) → Result (List Insn) Fault
 read_extent r lines None = Err (fault 0 NoFunction)
 read_extent r lines (Some found) = insns_of (r (target_of found.0)) found.0 >>= closed_by lines found.0 found.1
 
 -- the instructions of the function of this name, or the first fault
-abbrev pub insns_in : ((List ℕ → Option ℕ) → List ℕ → ℕ → Result Insn ReadKind) → List ℕ → ℕ → List Item → Result (List Insn) Fault
+abbrev pub insns_in : ((List ℕ → Option ℕ) → List ℕ → ℕ → Result Insn ReadKind)
+    → List ℕ → ℕ → List Item → Result (List Insn) Fault
 insns_in r name lines items = read_extent r lines (extent_of name items)

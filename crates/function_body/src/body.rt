@@ -168,7 +168,8 @@ pub fn extent<'i, 't>(
     name: &[u8],
     items: &'i [Item<'t>],
 ) -> Option<(&'i [Item<'t>], &'i [Item<'t>])>
-    ensures { option_map (λ found. (map seen found.0.now, map seen found.1.now)) result ≡ extent_of name.now (map seen items.now) }
+    ensures { option_map (λ found. (map seen found.0.now, map seen found.1.now)) result
+        ≡ extent_of name.now (map seen items.now) }
 {
     let mut rest = items;
     while let [item, after @ ..] = rest {

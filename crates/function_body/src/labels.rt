@@ -29,7 +29,8 @@ pub struct BodyLabels<'i, 't> {
     body: &'i [Item<'t>],
     firsts: BTreeMap<&'t [u8], First>,
     insns: usize,
-    ghost kept: { (name : List ℕ) → get_by (λ key. slice_cmp nat_cmp name key.now) firsts ≡ first_from 0 0 (map seen body.now) name },
+    ghost kept: { (name : List ℕ) → get_by (λ key. slice_cmp nat_cmp name key.now) firsts
+        ≡ first_from 0 0 (map seen body.now) name },
     ghost counted: { insns ≡ count_by is_code (map seen body.now) },
 }
 
@@ -40,7 +41,8 @@ fn add_first<'t>(
     first: First,
 ) -> Result<(), ReadRefusal>
     ensures added { OnOk result ((other : List ℕ) → get_by (λ key. slice_cmp nat_cmp other key.now) firsts.new
-        ≡ option_or (get_by (λ key. slice_cmp nat_cmp other key.now) firsts.old) (if bytes_eq name.now other then Some first else None)) }
+        ≡ option_or (get_by (λ key. slice_cmp nat_cmp other key.now) firsts.old)
+        (if bytes_eq name.now other then Some first else None)) }
     ensures memory { IfErr result (λ e. e ≡ out_of_memory) }
 {
     if !firsts.contains_key(name) {
@@ -56,7 +58,8 @@ fn add_item<'t>(
     first: First,
 ) -> Result<(), ReadRefusal>
     ensures added { OnOk result ((name : List ℕ) → get_by (λ key. slice_cmp nat_cmp name key.now) firsts.new
-        ≡ option_or (get_by (λ key. slice_cmp nat_cmp name key.now) firsts.old) (if is_label name (seen item.now) then Some first else None)) }
+        ≡ option_or (get_by (λ key. slice_cmp nat_cmp name key.now) firsts.old)
+        (if is_label name (seen item.now) then Some first else None)) }
     ensures memory { IfErr result (λ e. e ≡ out_of_memory) }
 {
     match item {

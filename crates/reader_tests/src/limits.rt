@@ -5,6 +5,9 @@ use att_reader::ReadRefusal;
 use std::alloc::{AllocError, Global};
 use std::test::Fail;
 
+/// How many lines of 34 bytes 16 MiB are.
+const LINES_OF_16_MIB: u32 = 493448;
+
 /// The function `f` of so many `nop`s and then this last line.
 fn nops(alloc: Global, count: u32, last: &[u8]) -> Result<Vec<u8>, AllocError> {
     let mut text = Vec::from_slice(alloc, b"f:\n")?;
@@ -97,7 +100,7 @@ fn a_line_has_at_most_4096_bytes(rt: HostRuntime) -> Result<(), Fail> {
 fn a_text_of_16_mib_is_read(rt: HostRuntime) -> Result<(), Fail> {
     let alloc = rt.alloc();
     let mut text = Vec::from_slice(alloc, b"f:\n jmp .Lend\n")?;
-    while text.len() < 16 << 20 {
+    for _ in 0..LINES_OF_16_MIB {
         text.extend_from_slice(b"# nothing but comments and labels\n")?;
     }
     text.extend_from_slice(b".Lend: ret\n")?;

@@ -41,7 +41,9 @@ colon_behind name (b ∷ rest) = if b == 58 then (if is_name name then Some (nam
 
 -- the label that a text begins with, behind blanks, and the rest
 unfoldable pub label_at : List ℕ → Option (List ℕ × List ℕ)
-label_at text = let named = behind_prefix is_blank text in colon_behind (prefix_of is_name_byte named) (behind_prefix is_name_byte named)
+label_at text =
+    let named = behind_prefix is_blank text in
+    colon_behind (prefix_of is_name_byte named) (behind_prefix is_name_byte named)
 
 -- a statement, if there is one
 abbrev pub statement_items : ℕ → List ℕ → List Item

@@ -36,7 +36,8 @@ pub record IsStated (text statement : List ℕ) : Type 0 where
 -- the text, on line k, is these items
 abbrev pub AreSpelled : ℕ → List ℕ → List Item → Type 0
 AreSpelled k text [] = list_all is_blank text ≡ true
-AreSpelled k text (Label name j ∷ items) = (j ≡ k) × ((rest : List ℕ) × IsLabelled text name rest × AreSpelled k rest items)
+AreSpelled k text (Label name j ∷ items) =
+    (j ≡ k) × ((rest : List ℕ) × IsLabelled text name rest × AreSpelled k rest items)
 AreSpelled k text (Statement x j ∷ []) = (j ≡ k) × IsStated text x
 AreSpelled k text (Statement x j ∷ item ∷ items) = ⊥
 
@@ -47,4 +48,6 @@ IsLine k line items = (visible : List ℕ) × IsUncommented line visible × AreS
 -- lines, counted from k on, hold these items
 abbrev pub AreLines : ℕ → List (List ℕ) → List Item → Type 0
 AreLines k [] items = items ≡ []
-AreLines k (line ∷ lines) items = (here : List Item) × (later : List Item) × IsLine k line here × AreLines (k + 1) lines later × (items ≡ here ++ later)
+AreLines k (line ∷ lines) items =
+    (here : List Item) × (later : List Item)
+    × IsLine k line here × AreLines (k + 1) lines later × (items ≡ here ++ later)
