@@ -9,34 +9,31 @@ use std::process::ExitCode;
 use std::rt::Env;
 use std::{env, io};
 
-/// The words of the command line behind the program's name. None where one is not text: such words
-/// are in no form, as no words are.
-fn command_words<R: Env + AllocGlobal>(rt: &R, alloc: Global) -> Result<Vec<Word>, Memory> {
-    let mut words = Vec::new(alloc);
+/// The arguments of the command line behind the program's name. None where one is not text: such
+/// arguments are a usage error, as no arguments are.
+fn arguments_of<R: Env + AllocGlobal>(rt: &R, alloc: Global) -> Result<Vec<Word>, Memory> {
+    let mut arguments = Vec::new(alloc);
     match env::args(rt) {
         Ok(args) => {
             for arg in args.skip(1) {
-                let word = Word::new(alloc, arg.as_bytes())?;
-                if words.push(word).is_err() {
-                    return Err(Memory);
-                }
+                arguments.push(Word::new(alloc, arg.as_bytes())?)?;
             }
-            Ok(words)
+            Ok(arguments)
         }
         Err(error) => match error.kind() {
             io::ErrorKind::OutOfMemory => Err(Memory),
-            _ => Ok(words),
+            _ => Ok(arguments),
         },
     }
 }
 
 fn main(rt: HostRuntime) -> ExitCode {
-    let status = match command_words(&rt, rt.alloc()) {
+    let status = match arguments_of(&rt, rt.alloc()) {
         Err(Memory) => Status::NoMemory,
-        Ok(words) => align_main(
+        Ok(arguments) => align_main(
             &rt,
             rt.alloc(),
-            words.as_slice(),
+            arguments.as_slice(),
             &OpenGate,
             &mut FolderShelf::new(&rt),
             &mut OutSink::new(&rt),

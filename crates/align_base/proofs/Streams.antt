@@ -18,11 +18,11 @@ more_had (Some x) None bytes limit given more = absurd given
 more_had (Some x) (Some y) bytes limit given more =
     let long : length x ≡ length bytes + length y = ap length given ∙ length-append bytes y in omega arith
 
--- n bytes of the rest join the front
-pub front_grows : (all front rest : List ℕ) (n : ℕ) → all ≡ front ++ rest → all ≡ (front ++ take n rest) ++ take (length rest - n) (drop n rest)
-front_grows all front rest n whole =
-    whole ∙ ap (λ l. front ++ l) (sym (take-append-drop n rest)) ∙ sym (append_assoc front (take n rest) (drop n rest))
-    ∙ ap (λ l. (front ++ take n rest) ++ l) (sym (take_rest rest n))
+-- n bytes of the rest join the prefix
+pub prefix_grows : (all prefix rest : List ℕ) (n : ℕ) → all ≡ prefix ++ rest → all ≡ (prefix ++ take n rest) ++ take (length rest - n) (drop n rest)
+prefix_grows all prefix rest n whole =
+    whole ∙ ap (λ l. prefix ++ l) (sym (take-append-drop n rest)) ∙ sym (append_assoc prefix (take n rest) (drop n rest))
+    ∙ ap (λ l. (prefix ++ take n rest) ++ l) (sym (take_rest rest n))
 
 -- what was kept and a piece that found no room were both taken
 pub both_taken : (bytes chunk : List ℕ) (len count : ℕ) → len ≡ length bytes → count ≤ length chunk → len + count ≡ length (bytes ++ take count chunk)

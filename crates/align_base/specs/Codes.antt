@@ -3,6 +3,7 @@ use Rattle.std.specs.Prelude.{ℕ}
 use Rattle.align_base.specs.declared.status.Status.{Status}
 use Rattle.align_base.specs.declared.status.Status.TheVariants.{Good, Negative, Unknown, Refused, Usage, ShelfFault, SinkFault, NoMemory}
 
+-- 0 to 7
 abbrev pub status_code : Status → ℕ
 status_code Good = 0
 status_code Negative = 1

@@ -2,6 +2,7 @@
 use Rattle.std.specs.Prelude.{◌≡◌, List, [], ◌∷◌, ◌++◌, Result, Ok, Err}
 
 infixl 10 ◌>>=◌
+-- the next reading, where there is no error
 abbrev pub ◌>>=◌ : {A B E : Type 0} → Result A E → (A → Result B E) → Result B E
 (Ok x) >>= f = f x
 (Err e) >>= f = Err e
@@ -11,15 +12,15 @@ unfoldable pub all_of : {X V E : Type 0} → (List X → X → Result (List V) E
 all_of r before [] = Ok []
 all_of r before (i ∷ is) = r before i >>= λ found. (all_of r (before ++ i ∷ []) is >>= λ rest. Ok (found ++ rest))
 
--- at a place of the items something is wrong, by F of those before it and the item there; front stands before all
-pub record HasFault {X E : Type 0} (F : List X → X → E → Type 0) (front items : List X) (e : E) : Type 0 where
+-- at a place of the items something is wrong, by F of those before it and the item there; prefix stands before all
+pub record HasFault {X E : Type 0} (F : List X → X → E → Type 0) (prefix items : List X) (e : E) : Type 0 where
   pub before : List X
   pub item : X
   pub after : List X
   pub there : items ≡ before ++ item ∷ after
-  pub wrong : F (front ++ before) item e
+  pub wrong : F (prefix ++ before) item e
 
 -- a fault that precedes every fault
-pub record IsFirst {X E : Type 0} (F : List X → X → E → Type 0) (Precedes : E → E → Type 0) (front items : List X) (e : E) : Type 0 where
-  pub has : HasFault F front items e
-  pub least : (other : E) → HasFault F front items other → Precedes e other
+pub record IsFirst {X E : Type 0} (F : List X → X → E → Type 0) (Precedes : E → E → Type 0) (prefix items : List X) (e : E) : Type 0 where
+  pub has : HasFault F prefix items e
+  pub least : (other : E) → HasFault F prefix items other → Precedes e other

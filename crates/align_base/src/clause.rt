@@ -1,3 +1,4 @@
+//! Literals and clauses, which refutations are made of. No command uses them yet.
 ghost use Rattle.std.specs.Prelude.{◌≡◌, List, map, IfOk};
 ghost use Rattle.std.specs.List.Sorted.{IsStrictlyIncreasing};
 
@@ -40,10 +41,8 @@ impl Clause {
         requires { IsStrictlyIncreasing (map (λ l. l.var) lits.now) }
         ensures { IfOk result (λ c. c ≡ lits.now) }
     {
-        match SmallVec::from_slice(alloc, lits) {
-            Ok(kept) => Ok(Clause { kept }),
-            Err(_) => Err(Memory),
-        }
+        let kept = SmallVec::from_slice(alloc, lits)?;
+        Ok(Clause { kept })
     }
 
     /// Its literals, in order of variable, each variable once.

@@ -1,5 +1,5 @@
 //! Files under names, in memory.
-ghost use Rattle.std.specs.Prelude.{◌≡◌, ◌≤◌, ℕ, List, ◌∷◌, length, Option, option_map, Vec, IfOk, IsErrOf};
+ghost use Rattle.std.specs.Prelude.{◌≡◌, option_map};
 ghost use Rattle.align_base.specs.Files.{CopiedWithin, first_held, PutFirst};
 
 use crate::shelf::{PutFault, TakeFault};
@@ -27,10 +27,7 @@ pub fn copied_within(alloc: Global, bytes: &[u8], limit: u64) -> Result<Vec<u8>,
     if bytes.len() as u64 > limit {
         return Err(TakeFault::Large(limit + 1));
     }
-    match Vec::from_slice(alloc, bytes) {
-        Ok(copy) => Ok(copy),
-        Err(_) => Err(TakeFault::Memory),
-    }
+    Ok(Vec::from_slice(alloc, bytes)?)
 }
 
 /// Puts a file before all others, so that its name holds it.
@@ -42,11 +39,7 @@ pub fn put_first(
 ) -> Result<(), PutFault>
     ensures { PutFirst files.old.items files.new.items name bytes.now result }
 {
-    match Vec::from_slice(alloc, bytes) {
-        Err(_) => Err(PutFault::Memory),
-        Ok(copy) => match files.insert(0, (name, copy)) {
-            Ok(()) => Ok(()),
-            Err(_) => Err(PutFault::Memory),
-        },
-    }
+    let copy = Vec::from_slice(alloc, bytes)?;
+    files.insert(0, (name, copy))?;
+    Ok(())
 }

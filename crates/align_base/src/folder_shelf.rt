@@ -1,6 +1,7 @@
 //! The files of the working folder.
 ghost use Rattle.std.specs.Prelude.{◌≡◌, None};
 ghost use Rattle.align_base.specs.Reading.{ReadWithin};
+ghost use Rattle.align_base.specs.Shelf.{new_account};
 
 use crate::shelf::{Call, PutFault, Shelf, TakeFault};
 use crate::whole::{Reading, read_whole, write_whole};
@@ -14,6 +15,7 @@ use std::{fs, str};
 #[derive(Drop)]
 pub struct FolderShelf<'a, R: Files> {
     rt: &'a R,
+    calls: u64,
     faults: u64,
     seen: u64,
     last_failed: Option<Call>,
@@ -22,13 +24,11 @@ pub struct FolderShelf<'a, R: Files> {
 impl<'a, R: Files> FolderShelf<'a, R> {
     /// The working folder.
     pub fn new(rt: &'a R) -> FolderShelf<'a, R>
-        ensures holding { ⟦<FolderShelf<'a, R> as Shelf>⟧.holding result ≡ None }
-        ensures faults { ⟦<FolderShelf<'a, R> as Shelf>⟧.faults result ≡ 0 }
-        ensures read { ⟦<FolderShelf<'a, R> as Shelf>⟧.seen result ≡ 0 }
-        ensures last { ⟦<FolderShelf<'a, R> as Shelf>⟧.last_failed result ≡ None }
+        ensures account { ⟦<FolderShelf<'a, R> as Shelf>⟧.account result ≡ new_account None }
     {
         FolderShelf {
             rt,
+            calls: 0,
             faults: 0,
             seen: 0,
             last_failed: None,
@@ -62,26 +62,18 @@ fn write_path<R: Files>(rt: &R, path: &[u8], bytes: &[u8]) -> bool {
 }
 
 impl<'a, R: Files> Shelf for FolderShelf<'a, R> {
-    ghost holding = { λ _. None };
-
-    ghost faults = { λ s. s.faults };
-
-    ghost seen = { λ s. s.seen };
-
-    ghost last_failed = { λ s. s.last_failed };
+    ghost account = { λ s. record { holding = None; calls = s.calls; faults = s.faults; last_failed = s.last_failed; seen = s.seen } };
 
     fn take(&mut self, alloc: Global, name: &Word, limit: u64) -> Result<Vec<u8>, TakeFault> {
+        self.calls = self.calls.saturating_add(1);
         self.seen = 0;
-        let copy = match Word::new(alloc, name.bytes()) {
-            Ok(copy) => copy,
-            Err(_) => return Err(TakeFault::Memory),
-        };
+        let copy = Word::new(alloc, name.bytes())?;
         let (reading, seen) = read_path(self.rt, alloc, name.bytes(), limit);
         self.seen = seen;
         match reading {
             Reading::Whole(bytes) => Ok(bytes),
             Reading::Large => Err(TakeFault::Large(limit + 1)),
-            Reading::NoMemory => Err(TakeFault::Memory),
+            Reading::OutOfMemory => Err(TakeFault::Memory),
             Reading::Broken => {
                 self.faults = self.faults.saturating_add(1);
                 self.last_failed = Some(Call::Take(copy));
@@ -91,10 +83,8 @@ impl<'a, R: Files> Shelf for FolderShelf<'a, R> {
     }
 
     fn put(&mut self, alloc: Global, name: &Word, bytes: &[u8]) -> Result<(), PutFault> {
-        let copy = match Word::new(alloc, name.bytes()) {
-            Ok(copy) => copy,
-            Err(_) => return Err(PutFault::Memory),
-        };
+        self.calls = self.calls.saturating_add(1);
+        let copy = Word::new(alloc, name.bytes())?;
         if write_path(self.rt, name.bytes(), bytes) {
             return Ok(());
         }

@@ -1,3 +1,5 @@
+//! The gate, which is told before each leaf of parallel work. No command uses it yet.
+
 /// Told before each leaf of parallel work: a refutation that is checked, or a duty that is tried.
 pub trait Gate {
     fn enter(&self, leaf: u32);

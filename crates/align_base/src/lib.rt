@@ -1,6 +1,12 @@
 //! What every layer of `align` stands on: words, statuses, literals and clauses, the operations of
-//! the instruction table, and the outside (a shelf of files, a sink for the report, a gate for
-//! parallel work).
+//! the instruction table, and the outside: a shelf of files, a sink for the report, and a gate for
+//! parallel work.
+//!
+//! Code that is generic over `Shelf` and `Sink` knows of each call what was read or written, where
+//! the shelf or the sink tells, and that a failure raised the count of faults:
+//!
+//!     let text = shelf.take(alloc, &name, 16_777_216)?;
+//!     out.give(text.as_slice())?;
 #![tactic(auto)]
 
 mod clause;
@@ -17,8 +23,6 @@ mod sink;
 mod status;
 mod sure_shelf;
 mod sure_sink;
-#[cfg(test)]
-mod tests;
 mod whole;
 mod word;
 

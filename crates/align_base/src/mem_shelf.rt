@@ -1,7 +1,8 @@
 //! A shelf in memory whose calls fail by their numbers.
-ghost use Rattle.std.specs.Prelude.{◌≡◌, ◌≤◌, ℕ, length, Option, Some, None, option_map, is_some, IfOk, OnOk, IsErrOf};
+ghost use Rattle.std.specs.Prelude.{◌≡◌, ◌≤◌, length, Option, Some, None, option_map, IfOk, OnOk, IsErrOf};
+ghost use Rattle.align_base.specs.Causes.{count_after};
 ghost use Rattle.align_base.specs.Files.{first_held};
-ghost use Rattle.align_base.specs.Shelf.{Holding, Holds, IfLarge, OthersStay, PutCause, TakeCause};
+ghost use Rattle.align_base.specs.Shelf.{Holds, IfLarge, OthersStay, PutCause, TakeCause, new_account};
 ghost use Rattle.align_base.specs.declared.shelf.Call.{Call};
 
 use crate::files::{copied_within, first_held, put_first};
@@ -22,20 +23,16 @@ pub struct MemShelf {
 }
 
 impl MemShelf {
-    ghost use Rattle.align_base.specs.MemKinds.{next_call, shelf_calls, shelf_fails, shelf_failing, shelf_files};
+    ghost use Rattle.align_base.specs.MemKinds.{shelf_fails, shelf_failing, shelf_files};
 
     /// A shelf of these files, of which the calls with these numbers fail. Of equal names the first
     /// file holds.
     pub fn new(files: Vec<(Word, Vec<u8>)>, failing: Vec<u64>) -> MemShelf
         ensures files { shelf_files result ≡ files.items }
         ensures failing { shelf_failing result ≡ failing.items }
-        ensures calls { shelf_calls result ≡ 0 }
 
         // What it is as a shelf.
-        ensures holding { ⟦<MemShelf as Shelf>⟧.holding result ≡ Some (first_held files.items) }
-        ensures faults { ⟦<MemShelf as Shelf>⟧.faults result ≡ 0 }
-        ensures read { ⟦<MemShelf as Shelf>⟧.seen result ≡ 0 }
-        ensures last { ⟦<MemShelf as Shelf>⟧.last_failed result ≡ None }
+        ensures account { ⟦<MemShelf as Shelf>⟧.account result ≡ new_account (Some (first_held files.items)) }
     {
         MemShelf {
             files,
@@ -56,7 +53,7 @@ impl MemShelf {
 
     /// Counts a call, and answers whether it fails by its number.
     fn next_fails(&mut self) -> bool
-        ensures counted { self.new ≡ record self.old { calls = next_call self.old.calls } }
+        ensures counted { self.new ≡ record self.old { calls = count_after self.old.calls 1 } }
         ensures fails { result ≡ shelf_fails self.old }
     {
         self.calls = self.calls.saturating_add(1);
@@ -66,7 +63,7 @@ impl MemShelf {
     /// Counts a failure of this call.
     fn fail(&mut self, call: Call)
         ensures later { self.old.faults ≤ self.new.faults }
-        ensures failed { self.new ≡ record self.old { faults = next_call self.old.faults; last_failed = Some call } }
+        ensures failed { self.new ≡ record self.old { faults = count_after self.old.faults 1; last_failed = Some call } }
     {
         self.faults = self.faults.saturating_add(1);
         self.last_failed = Some(call);
@@ -74,37 +71,28 @@ impl MemShelf {
 }
 
 impl Shelf for MemShelf {
-    ghost use Rattle.align_base.specs.MemKinds.{TakeFails, PutFails, next_call, shelf_calls, shelf_failing, shelf_files};
+    ghost use Rattle.align_base.specs.MemKinds.{TakeFails, PutFails, shelf_account, shelf_failing, shelf_files};
 
-    ghost holding = { λ s. Some (first_held (shelf_files s)) };
-
-    ghost faults = { λ s. s.faults };
-
-    ghost seen = { λ s. s.seen };
-
-    ghost last_failed = { λ s. s.last_failed };
+    ghost account = { λ s. shelf_account s };
 
     fn take(&mut self, alloc: Global, name: &Word, limit: u64) -> Result<Vec<u8>, TakeFault>
         ensures fails { TakeFails self.old name.now result }
-        ensures counted { shelf_calls self.new ≡ next_call (shelf_calls self.old) }
         ensures failing { shelf_failing self.new ≡ shelf_failing self.old }
         ensures unread { IsErrOf result TakeFault.Failed → self.new.seen ≡ 0 }
 
         // What every shelf ensures.
+        ensures counted { self.new.calls ≡ count_after self.old.calls 1 }
         ensures same { shelf_files self.new ≡ shelf_files self.old }
         ensures held { IfOk result (λ bytes. Holds (Some (first_held (shelf_files self.old))) name.now bytes.items) }
         ensures small { IfOk result (λ bytes. length bytes.items ≤ limit) }
         ensures read { IfOk result (λ bytes. self.new.seen ≡ length bytes.items) }
         ensures large { IfLarge (Some (first_held (shelf_files self.old))) name.now limit self.new.seen result }
-        ensures cause { TakeCause (Call.Take name.now) self.old.faults self.new.faults self.old.last_failed self.new.last_failed result }
+        ensures cause { TakeCause (Call.Take name.now) (shelf_account self.old) (shelf_account self.new) result }
         ensures later { self.old.faults ≤ self.new.faults }
     {
         self.seen = 0;
         let fails = self.next_fails();
-        let copy = match Word::new(alloc, name.bytes()) {
-            Ok(copy) => copy,
-            Err(_) => return Err(TakeFault::Memory),
-        };
+        let copy = Word::new(alloc, name.bytes())?;
         if fails {
             self.fail(Call::Take(copy));
             return Err(TakeFault::Failed);
@@ -123,23 +111,20 @@ impl Shelf for MemShelf {
 
     fn put(&mut self, alloc: Global, name: &Word, bytes: &[u8]) -> Result<(), PutFault>
         ensures fails { PutFails self.old result }
-        ensures counted { shelf_calls self.new ≡ next_call (shelf_calls self.old) }
         ensures failing { shelf_failing self.new ≡ shelf_failing self.old }
         ensures failed { IsErrOf result PutFault.Failed → shelf_files self.new ≡ shelf_files self.old }
 
         // What every shelf ensures.
+        ensures counted { self.new.calls ≡ count_after self.old.calls 1 }
         ensures held { OnOk result (Holds (Some (first_held (shelf_files self.new))) name.now bytes.now) }
         ensures others { OthersStay name.now (Some (first_held (shelf_files self.old))) (Some (first_held (shelf_files self.new))) }
         ensures memory { IsErrOf result PutFault.Memory → shelf_files self.new ≡ shelf_files self.old }
         ensures read { self.new.seen ≡ self.old.seen }
-        ensures cause { PutCause (Call.Put name.now) self.old.faults self.new.faults self.old.last_failed self.new.last_failed result }
+        ensures cause { PutCause (Call.Put name.now) (shelf_account self.old) (shelf_account self.new) result }
         ensures later { self.old.faults ≤ self.new.faults }
     {
         let fails = self.next_fails();
-        let copy = match Word::new(alloc, name.bytes()) {
-            Ok(copy) => copy,
-            Err(_) => return Err(PutFault::Memory),
-        };
+        let copy = Word::new(alloc, name.bytes())?;
         if fails {
             self.fail(Call::Put(copy));
             return Err(PutFault::Failed);

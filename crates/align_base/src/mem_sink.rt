@@ -1,6 +1,7 @@
 //! A sink in memory whose calls fail by their numbers.
-ghost use Rattle.std.specs.Prelude.{◌≡◌, ◌≤◌, [], List, Some, IsErrOf};
-ghost use Rattle.align_base.specs.Sink.{GiveTells};
+ghost use Rattle.std.specs.Prelude.{◌≡◌, ◌≤◌, [], Some, IsErrOf};
+ghost use Rattle.align_base.specs.Causes.{count_after};
+ghost use Rattle.align_base.specs.Sink.{GiveTells, new_sink_account};
 
 use crate::sink::{GiveFault, Sink};
 use std::alloc::Global;
@@ -16,17 +17,15 @@ pub struct MemSink {
 }
 
 impl MemSink {
-    ghost use Rattle.align_base.specs.MemKinds.{sink_calls, sink_failing, sink_text};
+    ghost use Rattle.align_base.specs.MemKinds.{sink_failing, sink_text};
 
     /// An empty sink, of which the calls with these numbers fail.
     pub fn new(alloc: Global, failing: Vec<u64>) -> MemSink
         ensures text { sink_text result ≡ [] }
         ensures failing { sink_failing result ≡ failing.items }
-        ensures calls { sink_calls result ≡ 0 }
 
         // What it is as a sink.
-        ensures written { ⟦<MemSink as Sink>⟧.written result ≡ Some [] }
-        ensures faults { ⟦<MemSink as Sink>⟧.faults result ≡ 0 }
+        ensures account { ⟦<MemSink as Sink>⟧.account result ≡ new_sink_account (Some []) }
     {
         MemSink {
             text: Vec::new(alloc),
@@ -45,20 +44,18 @@ impl MemSink {
 }
 
 impl Sink for MemSink {
-    ghost use Rattle.align_base.specs.MemKinds.{GiveFails, next_call, sink_calls, sink_failing, sink_text};
+    ghost use Rattle.align_base.specs.MemKinds.{GiveFails, sink_account, sink_failing, sink_text};
 
-    ghost written = { λ s. Some (sink_text s) };
-
-    ghost faults = { λ s. s.faults };
+    ghost account = { λ s. sink_account s };
 
     fn give(&mut self, bytes: &[u8]) -> Result<(), GiveFault>
         ensures fails { GiveFails self.old result }
-        ensures counted { sink_calls self.new ≡ next_call (sink_calls self.old) }
         ensures failing { sink_failing self.new ≡ sink_failing self.old }
         ensures failed { IsErrOf result GiveFault.Failed → sink_text self.new ≡ sink_text self.old }
 
         // What every sink ensures.
-        ensures tells { GiveTells self.old.faults self.new.faults (Some (sink_text self.old)) (Some (sink_text self.new)) bytes.now result }
+        ensures counted { self.new.calls ≡ count_after self.old.calls 1 }
+        ensures tells { GiveTells (sink_account self.old) (sink_account self.new) bytes.now result }
         ensures later { self.old.faults ≤ self.new.faults }
     {
         self.calls = self.calls.saturating_add(1);
@@ -66,9 +63,7 @@ impl Sink for MemSink {
             self.faults = self.faults.saturating_add(1);
             return Err(GiveFault::Failed);
         }
-        match self.text.extend_from_slice(bytes) {
-            Ok(()) => Ok(()),
-            Err(_) => Err(GiveFault::Memory),
-        }
+        self.text.extend_from_slice(bytes)?;
+        Ok(())
     }
 }

@@ -1,3 +1,5 @@
+//! The operations of the instruction table, their conditions, and the flags.
+
 /// A condition of `cmovCC`, `setCC` and `jCC`, by the first of its names (Intel SDM volume 1, appendix
 /// B, "EFLAGS Condition Codes").
 #[derive(Clone, Copy, Debug, PartialEq, Eq)]

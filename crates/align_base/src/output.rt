@@ -1,3 +1,5 @@
+//! What is compared where two functions have returned.
+
 /// What is compared where two functions have returned.
 #[derive(Clone, Copy, Debug, PartialEq, Eq)]
 pub enum Output {

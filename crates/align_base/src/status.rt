@@ -1,3 +1,4 @@
+//! The status that the program ends with, and the two sides that are compared.
 ghost use Rattle.std.specs.Prelude.{◌≡◌};
 ghost use Rattle.align_base.specs.Codes.{status_code};
 
@@ -11,21 +12,21 @@ pub enum Side {
 /// How a call of the program ended.
 #[derive(Clone, Copy, Debug, PartialEq, Eq)]
 pub enum Status {
-    /// Equivalent, accepted, or a finished run, show or sample.
+    /// The functions are equivalent.
     Good,
-    /// Different, uneven or rejected.
+    /// The functions are different.
     Negative,
-    /// Neither was found.
+    /// Neither was found. No command answers so yet.
     Unknown,
     /// An input was refused.
     Refused,
-    /// The words are in no form.
+    /// A usage error: the arguments are no command.
     Usage,
-    /// A file could not be taken, or the certificate not be put.
+    /// A file could not be taken.
     ShelfFault,
     /// The report could not be given.
     SinkFault,
-    /// Memory was wanted and not found.
+    /// Out of memory.
     NoMemory,
 }
 

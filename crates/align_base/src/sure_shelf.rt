@@ -1,6 +1,7 @@
 //! A shelf in memory that never fails.
-ghost use Rattle.std.specs.Prelude.{◌≡◌, Option, Some, None, option_map};
+ghost use Rattle.std.specs.Prelude.{◌≡◌, Some, None, option_map};
 ghost use Rattle.align_base.specs.Files.{held_or_empty};
+ghost use Rattle.align_base.specs.Shelf.{new_account};
 
 use crate::files::{copied_within, first_held, put_first};
 use crate::shelf::{PutFault, Shelf, TakeFault};
@@ -12,6 +13,7 @@ use std::alloc::Global;
 #[derive(Drop)]
 pub struct SureShelf {
     files: Vec<(Word, Vec<u8>)>,
+    calls: u64,
     seen: u64,
 }
 
@@ -23,12 +25,14 @@ impl SureShelf {
         ensures files { sure_files result ≡ files.items }
 
         // What it is as a shelf.
-        ensures holding { ⟦<SureShelf as Shelf>⟧.holding result ≡ Some (λ name. Some (held_or_empty files.items name)) }
-        ensures faults { ⟦<SureShelf as Shelf>⟧.faults result ≡ 0 }
-        ensures read { ⟦<SureShelf as Shelf>⟧.seen result ≡ 0 }
-        ensures last { ⟦<SureShelf as Shelf>⟧.last_failed result ≡ None }
+        ensures account { ⟦<SureShelf as Shelf>⟧.account result
+            ≡ new_account (Some (λ name. Some (held_or_empty files.items name))) }
     {
-        SureShelf { files, seen: 0 }
+        SureShelf {
+            files,
+            calls: 0,
+            seen: 0,
+        }
     }
 
     /// What the name holds. It is never `None`.
@@ -43,17 +47,12 @@ impl SureShelf {
 }
 
 impl Shelf for SureShelf {
-    ghost use Rattle.align_base.specs.SureKinds.{sure_files};
+    ghost use Rattle.align_base.specs.SureKinds.{sure_shelf_account};
 
-    ghost holding = { λ s. Some (λ name. Some (held_or_empty (sure_files s) name)) };
-
-    ghost faults = { λ _. 0 };
-
-    ghost seen = { λ s. s.seen };
-
-    ghost last_failed = { λ _. None };
+    ghost account = { λ s. sure_shelf_account s };
 
     fn take(&mut self, alloc: Global, name: &Word, limit: u64) -> Result<Vec<u8>, TakeFault> {
+        self.calls = self.calls.saturating_add(1);
         match first_held(self.files.as_slice(), name.bytes()) {
             None => {
                 self.seen = 0;
@@ -67,10 +66,8 @@ impl Shelf for SureShelf {
     }
 
     fn put(&mut self, alloc: Global, name: &Word, bytes: &[u8]) -> Result<(), PutFault> {
-        let copy = match Word::new(alloc, name.bytes()) {
-            Ok(copy) => copy,
-            Err(_) => return Err(PutFault::Memory),
-        };
+        self.calls = self.calls.saturating_add(1);
+        let copy = Word::new(alloc, name.bytes())?;
         put_first(&mut self.files, alloc, copy, bytes)
     }
 }

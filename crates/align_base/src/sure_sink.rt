@@ -1,5 +1,6 @@
 //! A sink in memory that never fails.
 ghost use Rattle.std.specs.Prelude.{◌≡◌, [], Some};
+ghost use Rattle.align_base.specs.Sink.{new_sink_account};
 
 use crate::sink::{GiveFault, Sink};
 use std::alloc::Global;
@@ -8,6 +9,7 @@ use std::alloc::Global;
 #[derive(Drop)]
 pub struct SureSink {
     text: Vec<u8>,
+    calls: u64,
 }
 
 impl SureSink {
@@ -18,11 +20,11 @@ impl SureSink {
         ensures text { sure_text result ≡ [] }
 
         // What it is as a sink.
-        ensures written { ⟦<SureSink as Sink>⟧.written result ≡ Some [] }
-        ensures faults { ⟦<SureSink as Sink>⟧.faults result ≡ 0 }
+        ensures account { ⟦<SureSink as Sink>⟧.account result ≡ new_sink_account (Some []) }
     {
         SureSink {
             text: Vec::new(alloc),
+            calls: 0,
         }
     }
 
@@ -35,16 +37,13 @@ impl SureSink {
 }
 
 impl Sink for SureSink {
-    ghost use Rattle.align_base.specs.SureKinds.{sure_text};
+    ghost use Rattle.align_base.specs.SureKinds.{sure_sink_account};
 
-    ghost written = { λ s. Some (sure_text s) };
-
-    ghost faults = { λ _. 0 };
+    ghost account = { λ s. sure_sink_account s };
 
     fn give(&mut self, bytes: &[u8]) -> Result<(), GiveFault> {
-        match self.text.extend_from_slice(bytes) {
-            Ok(()) => Ok(()),
-            Err(_) => Err(GiveFault::Memory),
-        }
+        self.calls = self.calls.saturating_add(1);
+        self.text.extend_from_slice(bytes)?;
+        Ok(())
     }
 }

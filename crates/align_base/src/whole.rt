@@ -15,7 +15,7 @@ pub enum Reading {
     Whole(Vec<u8>),
     Broken,
     Large,
-    NoMemory,
+    OutOfMemory,
 }
 
 /// The bytes of a file up to its end, at most `limit`, and how many bytes were read. Each turn reads a
@@ -36,7 +36,7 @@ pub fn read_whole<F: Read>(alloc: Global, file: &mut F, limit: u64) -> (Reading,
             }
             Ok(count) => {
                 if bytes.extend_from_slice(&chunk[..count]).is_err() {
-                    return (Reading::NoMemory, (bytes.len() + count) as u64);
+                    return (Reading::OutOfMemory, (bytes.len() + count) as u64);
                 }
             }
         }

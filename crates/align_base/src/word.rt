@@ -1,13 +1,28 @@
+//! Words: names and arguments, as bytes; and the error of a call that found no memory.
 ghost use Rattle.std.specs.Prelude.{◌≡◌, List, ℕ, IfOk};
 
-use std::alloc::Global;
+use std::alloc::{AllocError, AllocFailed, Global};
 use std::marker::Model;
+use thiserror::Error;
 
-/// Memory was wanted and not found.
-#[derive(Clone, Copy, Debug, PartialEq, Eq)]
+/// Out of memory.
+#[derive(Clone, Copy, Debug, PartialEq, Eq, Error)]
+#[error("out of memory")]
 pub struct Memory;
 
-/// A word: a name of a file or a function, or a word of the command line. Any bytes.
+impl From<AllocError> for Memory {
+    fn from(_error: AllocError) -> Memory {
+        Memory
+    }
+}
+
+impl<T: Drop> From<AllocFailed<T>> for Memory {
+    fn from(_failed: AllocFailed<T>) -> Memory {
+        Memory
+    }
+}
+
+/// A name of a file or a function, or an argument of the command line. Any bytes.
 ///
 /// Contracts see it as the list of its bytes.
 #[derive(Drop)]
@@ -26,10 +41,8 @@ impl Word {
     pub fn new(alloc: Global, bytes: &[u8]) -> Result<Word, Memory>
         ensures { IfOk result (λ w. w ≡ bytes.now) }
     {
-        match Vec::from_slice(alloc, bytes) {
-            Ok(text) => Ok(Word { text }),
-            Err(_) => Err(Memory),
-        }
+        let text = Vec::from_slice(alloc, bytes)?;
+        Ok(Word { text })
     }
 
     /// Its bytes.

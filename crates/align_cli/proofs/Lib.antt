@@ -1,8 +1,9 @@
-pub mod PlainWords
+pub mod PlainLines
 pub mod Products
 pub mod Tracking
 pub mod Lines
 pub mod Verdicts
-pub mod Taking
-pub mod NoForm
-pub mod Exact
+pub mod Reaching
+pub mod Owing
+pub mod Ending
+pub mod PlainEnds

@@ -9,7 +9,7 @@ use Rattle.insn_table.specs.declared.insn.Insn.{Insn}
 use Rattle.insn_table.specs.declared.insn.Operand.{Operand}
 use Rattle.insn_table.specs.declared.insn.Operand.TheVariants.{Reg, Nothing}
 use Rattle.machine.specs.Machine.{AreRegs}
-use Rattle.machine.specs.Straight.{computed, regs_after, value_at}
+use Rattle.machine.specs.Straight.{plain_result, regs_after, value_at}
 use Rattle.machine.specs.Straight.{regs_through}
 use Rattle.align_cli.specs.declared.sums.Sum.{Sum}
 use Rattle.align_cli.specs.Sums.{Tracks, sum_value}
@@ -48,7 +48,7 @@ set-tracks sums start regs n new v sixteen low t is = record {
 
 -- what an instruction with these operands does to the registers
 pub regs_after-move : (i : Insn) (source target : Operand) (n w : ℕ) (regs : List ℕ) → i.args ≡ source ∷ target ∷ Nothing ∷ Nothing ∷ [] → target ≡ Reg n w
-    → regs_after i regs ≡ set regs n (computed i.op (get_or regs n 0) (value_at regs source))
+    → regs_after i regs ≡ set regs n (plain_result i.op (get_or regs n 0) (value_at regs source))
 regs_after-move i source target n w regs args is = rw (args, is) refl
 
 -- one more move behind others

@@ -8,7 +8,7 @@ use Rattle.machine.specs.Machine.{AreRegs, AreVecs, IsPlainStart}
 use Rattle.machine.specs.Straight.{regs_through}
 use Rattle.machine.proofs.PlainLaws.{plain_end, plain_end-regs, plain_ends, plain_moves, plain_never_faults, plain-equivalent}
 use Rattle.align_cli.specs.declared.sums.Sum.{Sum}
-use Rattle.align_cli.specs.Headline.{AgreeFrom, IsShown, ReportsDifferent, ReportsEquivalent, ReturnsFrom}
+use Rattle.align_cli.specs.Verdict.{AgreeFrom, IsShown, ReportsDifferent, ReportsEquivalent, ReturnsFrom}
 use Rattle.align_cli.specs.Report.{different_report, equivalent_report}
 use Rattle.align_cli.specs.Shown.{no_register, one_register, start_at}
 use Rattle.align_cli.specs.Sums.{LeavesInRax, TellsApart, sum_value}

@@ -11,6 +11,7 @@ use Rattle.att_reader.specs.PlainText.{register_names}
 unfoldable pub value_text : ℕ → List ℕ
 value_text v = codes "0x" ++ digits 16 false v
 
+-- the report of functions that are equivalent within a bound
 unfoldable pub equivalent_report : ℕ → List ℕ
 equivalent_report bound = codes "equivalent\nnodes 2\nedges 1\nbound " ++ decimal bound ++ codes "\ntests none\n"
 
@@ -23,6 +24,7 @@ unfoldable pub register_lines : ℕ → List ℕ → List ℕ
 register_lines n [] = []
 register_lines n (v ∷ vs) = register_line (unwrap_or (slice_get register_names n) []) v ++ register_lines (n + 1) vs
 
+-- what reports call a side
 abbrev pub side_name : Side → List ℕ
 side_name Left = codes "left"
 side_name Right = codes "right"
@@ -41,17 +43,24 @@ different_report left_steps right_steps left_value right_value regs =
     codes "different\nsource found\n" ++ returned_line Left left_steps ++ returned_line Right right_steps
     ++ differs_line left_value right_value ++ codes "state\n" ++ register_lines 0 regs
 
+-- what refusals call a fault of a text
 abbrev pub kind_name : ReadKind → List ℕ
 kind_name Memory = codes "memory"
 kind_name NoFunction = codes "no-function"
 kind_name UnknownInstruction = codes "unknown-instruction"
 kind_name FallsOff = codes "falls-off"
 
+-- the refusal of a text at a line
 unfoldable pub line_refusal : Side → ℕ → ReadKind → List ℕ
-line_refusal side line kind = codes "refused " ++ side_name side ++ codes " line " ++ decimal line ++ codes " " ++ kind_name kind ++ codes "\n"
+line_refusal side line kind =
+    codes "refused " ++ side_name side ++ codes " line " ++ decimal line ++ codes " " ++ kind_name kind ++ codes "\n"
 
+-- the refusal of a file of which so many bytes were read
 unfoldable pub large_refusal : Side → ℕ → List ℕ
 large_refusal side seen = codes "refused " ++ side_name side ++ codes " large " ++ decimal seen ++ codes "\n"
 
+-- how the program is used
 unfoldable pub usage_text : List ℕ
-usage_text = codes "usage: align decide LEFT F RIGHT G [ADMIT TESTS]\n       align check LEFT F RIGHT G ADMIT CERT\n       align run FILE F ADMIT TESTS\n       align show FILE F\n       align sample N\n"
+usage_text =
+    codes "usage: align decide LEFT F RIGHT G [ADMIT TESTS]\n" ++ codes "       align check LEFT F RIGHT G ADMIT CERT\n"
+    ++ codes "       align run FILE F ADMIT TESTS\n" ++ codes "       align show FILE F\n" ++ codes "       align sample N\n"

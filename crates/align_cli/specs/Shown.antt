@@ -2,10 +2,11 @@
 use Rattle.std.specs.Prelude.{ℕ, List, [], replicate, slice_set}
 use Rattle.machine.specs.Machine.{Machine, no_flags}
 
--- all registers 0, and all but one, which is 1
+-- all registers 0
 abbrev pub no_register : List ℕ
 no_register = replicate 16 0
 
+-- all registers 0 but this one, which is 1
 abbrev pub one_register : ℕ → List ℕ
 one_register n = slice_set no_register n 1
 

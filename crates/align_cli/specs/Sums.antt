@@ -23,7 +23,8 @@ pub record Tracks (sums : List Sum) (start regs : List ℕ) : Type 0 where
 
 -- the sum is what the function's moves leave in register 0, whatever the entry registers
 abbrev pub LeavesInRax : List Insn → Sum → Type 0
-LeavesInRax insns s = (start : List ℕ) → AreRegs start → sum_value s start ≡ slice_index (regs_through (take (length insns - 1) insns) start) 0
+LeavesInRax insns s =
+    (start : List ℕ) → AreRegs start → sum_value s start ≡ slice_index (regs_through (take (length insns - 1) insns) start) 0
 
 -- Both sums have values that differ where the entry registers are these: all 0 where they differ there, else 1 in the
 -- first register, by number, where they differ.

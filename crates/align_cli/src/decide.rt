@@ -1,74 +1,22 @@
 //! The command `decide` in its short form: two plain functions, compared by the sums that they leave
 //! in `%rax`.
-ghost use Rattle.std.specs.Prelude.{◌≡◌, ◌<◌, ◌^◌, length, string_bytes, IfOk, MatchResult, Ok, Err};
-ghost use Rattle.align_base.specs.declared.shelf.Call.{Call};
+ghost use Rattle.std.specs.Prelude.{◌≡◌, ◌<◌, ◌^◌, length, string_bytes, IfErr, IfOk, OnOk};
+ghost use Rattle.align_base.specs.Shelf.{NoneFailed};
 ghost use Rattle.insn_table.specs.Plain.{IsPlain};
-ghost use Rattle.align_cli.specs.Decide.{DecideFails, TakenAs, TakeFails};
-ghost use Rattle.align_cli.specs.Headline.{Reports, Tells};
-ghost use Rattle.align_cli.specs.View.{form_view};
+ghost use Rattle.align_cli.specs.Answers.{TakesAtMost, TellsOf};
+ghost use Rattle.align_cli.specs.Files.{files_of};
+ghost use Rattle.align_cli.specs.Inside.{Compares, Interrupts};
+ghost use Rattle.align_cli.specs.View.{decide_view};
 
-use crate::form::ShortForm;
+use crate::answer::{Answer, Interruption};
+use crate::arguments::FunctionArguments;
+use crate::functions::{Taken, function_in};
 use crate::report;
 use crate::report::Ending;
 use crate::sums::{rax_sum, telling_registers};
-use align_base::{Shelf, Side, Status, TakeFault, Word};
-use att_reader::{ReadKind, read_function};
+use align_base::{Shelf, Side, Status};
 use insn_table::Function;
 use std::alloc::{AllocError, Global};
-
-/// The most bytes of a file of a function: 16 MiB.
-const FILE_LIMIT: u64 = 16_777_216;
-
-/// What is given at the end, and with which status.
-#[derive(Drop)]
-pub struct Answer {
-    pub status: Status,
-    pub text: String,
-}
-
-/// What a file gave: the function, or the refusal.
-#[derive(Drop)]
-enum Taken {
-    Read(Function),
-    Refused(String),
-}
-
-/// The refusal of a file, or want of memory.
-fn refusal_in(text: Result<String, AllocError>) -> Result<Taken, Status>
-    ensures { MatchResult text (λ t. result ≡ Ok (Taken.Refused t)) (λ _. result ≡ Err Status.NoMemory) }
-{
-    match text {
-        Ok(text) => Ok(Taken::Refused(text)),
-        Err(_) => Err(Status::NoMemory),
-    }
-}
-
-/// The function of this name in the text of this file.
-fn function_in<F: Shelf>(
-    alloc: Global,
-    shelf: &mut F,
-    side: Side,
-    file: &Word,
-    name: &Word,
-) -> Result<Taken, Status>
-    ensures holding { F.holding shelf.new ≡ F.holding shelf.old }
-    ensures told { IfOk result (TakenAs (F.holding shelf.old) (F.seen shelf.new) side file.now name.now) }
-    ensures cause { TakeFails (Call.Take file.now) (F.faults shelf.old) (F.faults shelf.new) (F.last_failed shelf.old) (F.last_failed shelf.new) result }
-{
-    let text = match shelf.take(alloc, file, FILE_LIMIT) {
-        Ok(text) => text,
-        Err(TakeFault::Failed) => return Err(Status::ShelfFault),
-        Err(TakeFault::Memory) => return Err(Status::NoMemory),
-        Err(TakeFault::Large(seen)) => return refusal_in(report::refused_large(alloc, side, seen)),
-    };
-    match read_function(alloc, text.as_slice(), name) {
-        Ok(function) => Ok(Taken::Read(function)),
-        Err(refusal) => match refusal.kind {
-            ReadKind::Memory => Err(Status::NoMemory),
-            _ => refusal_in(report::refused_line(alloc, side, refusal)),
-        },
-    }
-}
 
 /// Compares two plain functions.
 fn compared(alloc: Global, left: &Function, right: &Function) -> Result<Answer, AllocError>
@@ -76,7 +24,7 @@ fn compared(alloc: Global, left: &Function, right: &Function) -> Result<Answer, 
     requires left_few { length left.now.insns < 2 ^ 32 }
     requires right_plain { IsPlain right.now.insns }
     requires right_few { length right.now.insns < 2 ^ 32 }
-    ensures { IfOk result (λ answer. Reports answer.status left.now.insns right.now.insns (string_bytes answer.text)) }
+    ensures { IfOk result (λ answer. Compares answer.status left.now.insns right.now.insns (string_bytes answer.text)) }
 {
     let left_sum = rax_sum(left.insns.as_slice());
     let right_sum = rax_sum(right.insns.as_slice());
@@ -104,17 +52,21 @@ fn compared(alloc: Global, left: &Function, right: &Function) -> Result<Answer, 
     }
 }
 
-/// Decides the form: takes and reads the left file, then the right one, and compares the functions.
+/// Takes and reads the left file, then the right one, and compares the functions.
 pub fn decided<F: Shelf>(
     alloc: Global,
-    form: &ShortForm<'_>,
+    left: &FunctionArguments<'_>,
+    right: &FunctionArguments<'_>,
     shelf: &mut F,
-) -> Result<Answer, Status>
-    ensures holding { F.holding shelf.new ≡ F.holding shelf.old }
-    ensures told { IfOk result (λ answer. Tells answer.status (form_view form.now) (F.holding shelf.old) (F.seen shelf.new) (string_bytes answer.text)) }
-    ensures cause { DecideFails (form_view form.now) (F.holding shelf.old) (F.faults shelf.old) (F.faults shelf.new) (F.last_failed shelf.old) (F.last_failed shelf.new) result }
+) -> Result<Answer, Interruption>
+    ensures holding { (F.account shelf.new).holding ≡ (F.account shelf.old).holding }
+    ensures takes { TakesAtMost (files_of (decide_view left.now right.now)) (F.account shelf.old) (F.account shelf.new) }
+    ensures ok { IfOk result (λ answer.
+        TellsOf (decide_view left.now right.now) answer.status (F.account shelf.old) (F.account shelf.new) (string_bytes answer.text)) }
+    ensures none_failed { OnOk result (NoneFailed (F.account shelf.old) (F.account shelf.new)) }
+    ensures err { IfErr result (Interrupts (decide_view left.now right.now) (F.account shelf.old) (F.account shelf.new)) }
 {
-    let left = match function_in(alloc, shelf, Side::Left, form.left_file, form.left_name)? {
+    let f = match function_in(alloc, shelf, Side::Left, left)? {
         Taken::Read(function) => function,
         Taken::Refused(text) => {
             return Ok(Answer {
@@ -123,7 +75,7 @@ pub fn decided<F: Shelf>(
             });
         }
     };
-    let right = match function_in(alloc, shelf, Side::Right, form.right_file, form.right_name)? {
+    let g = match function_in(alloc, shelf, Side::Right, right)? {
         Taken::Read(function) => function,
         Taken::Refused(text) => {
             return Ok(Answer {
@@ -132,8 +84,5 @@ pub fn decided<F: Shelf>(
             });
         }
     };
-    match compared(alloc, &left, &right) {
-        Ok(answer) => Ok(answer),
-        Err(_) => Err(Status::NoMemory),
-    }
+    Ok(compared(alloc, &f, &g)?)
 }

@@ -1,12 +1,19 @@
-//! The commands of `align`.
+//! The commands of `align`, and `align_main`, which does all that the program does.
+//!
+//! Its contract says of every status what it means of the files that the arguments name. Each command
+//! has definitions of its own (`specs/Command.antt`, `Files.antt`, `Commands.antt`) and a function
+//! that ends in an answer; the clauses of `align_main` are the same for all.
+//!
+//!     let status = align_main(&rt, alloc, arguments, &OpenGate, &mut shelf, &mut out);
 #![tactic(auto)]
 
+mod answer;
+mod arguments;
 mod decide;
-mod form;
+mod functions;
+mod plainness;
 mod report;
 mod sums;
-#[cfg(test)]
-mod tests;
 mod top;
 
 pub use top::align_main;

@@ -173,8 +173,10 @@ pub fn refused_large(alloc: Global, side: Side, seen: u64) -> Result<String, All
 pub fn usage(alloc: Global) -> Result<String, AllocError>
     ensures { IfOk result (λ text. string_bytes text ≡ usage_text) }
 {
-    String::from_str(
-        alloc,
-        "usage: align decide LEFT F RIGHT G [ADMIT TESTS]\n       align check LEFT F RIGHT G ADMIT CERT\n       align run FILE F ADMIT TESTS\n       align show FILE F\n       align sample N\n",
-    )
+    let mut text = String::from_str(alloc, "usage: align decide LEFT F RIGHT G [ADMIT TESTS]\n")?;
+    text.push_str("       align check LEFT F RIGHT G ADMIT CERT\n")?;
+    text.push_str("       align run FILE F ADMIT TESTS\n")?;
+    text.push_str("       align show FILE F\n")?;
+    text.push_str("       align sample N\n")?;
+    Ok(text)
 }

@@ -2,7 +2,7 @@
 ghost use Rattle.std.specs.Prelude.{◌≡◌, ◌+◌, ◌-◌, ◌*◌, ◌^◌, ◌%◌, ◌<◌, ℕ, List, length, slice_index, take, IfSome, IfNone};
 ghost use Rattle.insn_table.specs.Plain.{IsPlain, IsPlainMove, IsSource};
 ghost use Rattle.machine.specs.Machine.{AreRegs};
-ghost use Rattle.machine.specs.Straight.{computed, regs_after, value_at};
+ghost use Rattle.machine.specs.Straight.{plain_result, regs_after, value_at};
 ghost use Rattle.align_cli.specs.Sums.{LeavesInRax, sum_value, TellsApart, Tracks};
 
 use insn_table::{Insn, Op, Operand};
@@ -89,8 +89,8 @@ fn source_sum(sums: &[Sum], source: Operand) -> Sum
 }
 
 /// The sum that the target holds after an operation.
-fn computed(op: Op, old: &Sum, source: &Sum) -> Sum
-    ensures { (regs : List ℕ) → sum_value result regs ≡ computed op (sum_value old.now regs) (sum_value source.now regs) }
+fn plain_result(op: Op, old: &Sum, source: &Sum) -> Sum
+    ensures { (regs : List ℕ) → sum_value result regs ≡ plain_result op (sum_value old.now regs) (sum_value source.now regs) }
 {
     match op {
         Op::Mov => *source,
@@ -108,7 +108,7 @@ fn advance(sums: &mut [Sum], insn: &Insn)
 {
     if let Operand::Reg { n, .. } = insn.args[1] {
         let source = source_sum(sums, insn.args[0]);
-        sums[n as usize] = computed(insn.op, &sums[n as usize], &source);
+        sums[n as usize] = plain_result(insn.op, &sums[n as usize], &source);
     }
 }
 

@@ -1,108 +1,125 @@
 //! The top call: all that the program does.
-ghost use Rattle.std.specs.Prelude.{◌≡◌, ◌≢◌, ◌⊎◌, string_bytes, IfOk, MatchResult};
+ghost use Rattle.std.specs.Prelude.{◌≡◌, ◌≢◌, ◌∷◌, ◌++◌, [], string_bytes, IfErr, IfOk, OnOk, MatchResult};
+ghost use Rattle.std.specs.List.{AllByRecursion};
 ghost use Rattle.align_base.specs.Causes.{Rose};
-ghost use Rattle.align_cli.specs.Form.{AreNoForm, IsShortForm, ShortForm};
-ghost use Rattle.align_cli.specs.Headline.{EndsInAgreement, EndsInRefusal, EndsInUsage, EndsInVerdict, FilesAgree, Given, GivenFront, HasShelfCause, IsBadFile, IsGoodFile, NoneFailed, OfForm, ReportsDifferent, ReportsEquivalent, TellsOf, TellsRefused, TellsUsage, TellsWords};
+ghost use Rattle.align_base.specs.Shelf.{NoneFailed};
+ghost use Rattle.align_base.specs.declared.status.Status.{Status};
+ghost use Rattle.align_cli.specs.Answers.{FailsAtFile, Finishes, Given, GivenPrefix, Refuses, TakesAtMost, Tells, TellsUsage};
+ghost use Rattle.align_cli.specs.Command.{Command, IsCommand, IsUsageError, OfCommand};
+ghost use Rattle.align_cli.specs.Commands.{finals, Owes};
+ghost use Rattle.align_cli.specs.Files.{files_of, HasBadFile, IsGoodFile};
+ghost use Rattle.align_cli.specs.Inside.{InterruptsArguments};
 ghost use Rattle.align_cli.specs.Report.{usage_text};
-ghost use Rattle.align_cli.specs.Top.{AnswerFails};
+ghost use Rattle.align_cli.specs.Statuses.{interruptions, IsOneOf};
 
-use crate::decide::{Answer, decided};
-use crate::form::short_form;
-use crate::report;
+use crate::answer::{Answer, Interruption};
+use crate::arguments::command_of;
+use crate::decide::decided;
+use crate::{arguments, report};
 use align_base::{Gate, GiveFault, Shelf, Sink, Status, Word};
-use std::alloc::Global;
+use std::alloc::{AllocError, Global};
 use std::thread::Threads;
 
-/// The usage, for words in no form.
-fn usage(alloc: Global) -> Result<Answer, Status>
-    ensures { MatchResult result (λ answer. (answer.status ≡ Status.Usage) × (string_bytes answer.text ≡ usage_text)) (λ status. status ≡ Status.NoMemory) }
+/// The usage, for arguments that are no command.
+fn usage(alloc: Global) -> Result<Answer, AllocError>
+    ensures { IfOk result (λ answer. (answer.status ≡ Status.Usage) × (string_bytes answer.text ≡ usage_text)) }
 {
-    match report::usage(alloc) {
-        Ok(text) => Ok(Answer {
-            status: Status::Usage,
-            text,
-        }),
-        Err(_) => Err(Status::NoMemory),
+    Ok(Answer {
+        status: Status::Usage,
+        text: report::usage(alloc)?,
+    })
+}
+
+/// What the arguments ask for, up to what is given.
+fn answer_of<F: Shelf>(
+    alloc: Global,
+    arguments: &[Word],
+    shelf: &mut F,
+) -> Result<Answer, Interruption>
+    ensures holding { (F.account shelf.new).holding ≡ (F.account shelf.old).holding }
+    ensures untouched { IsUsageError arguments.now → F.account shelf.new ≡ F.account shelf.old }
+    ensures takes { (command : Command) → IsCommand arguments.now command
+        → TakesAtMost (files_of command) (F.account shelf.old) (F.account shelf.new) }
+    ensures ok { IfOk result (λ answer.
+        Tells arguments.now answer.status (F.account shelf.old) (F.account shelf.new) (string_bytes answer.text)) }
+    ensures none_failed { OnOk result (NoneFailed (F.account shelf.old) (F.account shelf.new)) }
+    ensures err { IfErr result (InterruptsArguments arguments.now (F.account shelf.old) (F.account shelf.new)) }
+{
+    match command_of(arguments) {
+        Some(arguments::Command::DecidePlain(left, right)) => decided(alloc, &left, &right, shelf),
+        None => Ok(usage(alloc)?),
     }
 }
 
-/// What the words ask for, up to what is given.
-fn answer_of<F: Shelf>(alloc: Global, words: &[Word], shelf: &mut F) -> Result<Answer, Status>
-    ensures holding { F.holding shelf.new ≡ F.holding shelf.old }
-    ensures told { IfOk result (λ answer. TellsWords answer.status words.now (F.holding shelf.old) (F.seen shelf.new) (string_bytes answer.text)) }
-    ensures cause { AnswerFails words.now (F.holding shelf.old) (F.faults shelf.old) (F.faults shelf.new) (F.last_failed shelf.old) (F.last_failed shelf.new) result }
-{
-    match short_form(words) {
-        Some(form) => decided(alloc, &form, shelf),
-        None => usage(alloc),
-    }
-}
-
-/// Does what the words of the command line ask for, those after the program's name: takes files from
-/// the shelf and gives one report to the sink. No command uses the gate or the threads yet.
+/// Does what the arguments of the command line ask for, those behind the program's name: takes files
+/// from the shelf and gives one report to the sink. No command uses the gate or the threads yet.
 pub fn align_main<R: Threads + Sync, G: Gate + Sync, F: Shelf, O: Sink>(
     rt: &R,
     alloc: Global,
-    words: &[Word],
+    arguments: &[Word],
     gate: &G,
     shelf: &mut F,
     out: &mut O,
 ) -> Status
-    // The functions in the files are equivalent within the printed bound.
-    ensures equivalent { result ≡ Status.Good
-        → Given (λ report. OfForm words.now (λ form. TellsOf ReportsEquivalent form (F.holding shelf.old) report)) (O.written out.old) (O.written out.new) }
-
-    // From the printed state both return with different %rax.
-    ensures different { result ≡ Status.Negative
-        → Given (λ report. OfForm words.now (λ form. TellsOf ReportsDifferent form (F.holding shelf.old) report)) (O.written out.old) (O.written out.new) }
-
-    // The first file, in the words' order, that is large or no plain text is refused.
-    ensures refused { result ≡ Status.Refused
-        → Given (λ report. OfForm words.now (λ form. TellsRefused form (F.holding shelf.old) (F.seen shelf.new) report)) (O.written out.old) (O.written out.new) }
-
-    // The words are in no form, and words in no form end so.
-    ensures usage { result ≡ Status.Usage → Given (TellsUsage words.now) (O.written out.old) (O.written out.new) }
-    ensures no_form { AreNoForm words.now → EndsInUsage result }
-
-    // A form with a bad file ends in its refusal, and one with two good files in a verdict, unless a call
-    // failed or memory was wanted.
-    ensures must_refuse { (form : ShortForm) → IsShortForm words.now form
-        → IsBadFile (F.holding shelf.old) form.left_file form.left_name ⊎ IsBadFile (F.holding shelf.old) form.right_file form.right_name
-        → EndsInRefusal result }
-    ensures must_decide { (form : ShortForm) → IsShortForm words.now form
-        → IsGoodFile (F.holding shelf.old) form.left_file form.left_name → IsGoodFile (F.holding shelf.old) form.right_file form.right_name
-        → EndsInVerdict result }
-
-    // Two good files whose functions return the same %rax from every start state end in status 0, unless a
-    // call failed or memory was wanted.
-    ensures must_agree { (form : ShortForm) → IsShortForm words.now form → FilesAgree form (F.holding shelf.old) → EndsInAgreement result }
-
-    // A take of a file word failed in this call, that of the right file only once the left one was read, and
-    // nothing was given. With any other status no call of the shelf failed.
-    ensures shelf_fault { result ≡ Status.ShelfFault
-        → OfForm words.now (λ form. HasShelfCause form (F.holding shelf.old) (F.faults shelf.old) (F.faults shelf.new) (F.last_failed shelf.new)) }
-    ensures no_shelf_fault { result ≢ Status.ShelfFault
-        → NoneFailed (F.faults shelf.old) (F.faults shelf.new) (F.last_failed shelf.old) (F.last_failed shelf.new) }
-    ensures nothing_given { result ≡ Status.ShelfFault → O.written out.new ≡ O.written out.old }
-
-    // The give failed in this call, after a front of a report that is true. With any other status no give
-    // failed.
-    ensures sink_fault { result ≡ Status.SinkFault → Rose (O.faults out.old) (O.faults out.new) }
-    ensures no_sink_fault { result ≢ Status.SinkFault → O.faults out.new ≡ O.faults out.old }
-    ensures front { result ≡ Status.SinkFault
-        → GivenFront words.now (F.holding shelf.old) (F.seen shelf.new) (O.written out.old) (O.written out.new) }
-
-    // Memory was wanted and not found, and nothing was given.
-    ensures no_memory { result ≡ Status.NoMemory → O.written out.new ≡ O.written out.old }
-
-    // No other status comes, and every name holds what it held.
+    // The command was carried out, and what its report says is so: of `decide`, that the functions in
+    // the files are equivalent within the printed bound, or that both return from the printed state
+    // with different %rax.
+    ensures good { result ≡ Status.Good
+        → Given (λ report. OfCommand arguments.now (λ command. Finishes command Status.Good (F.account shelf.old) (F.account shelf.new) report))
+        (O.account out.old) (O.account out.new) }
+    ensures negative { result ≡ Status.Negative
+        → Given (λ report. OfCommand arguments.now (λ command. Finishes command Status.Negative (F.account shelf.old) (F.account shelf.new) report))
+        (O.account out.old) (O.account out.new) }
     ensures known { result ≢ Status.Unknown }
-    ensures holding { F.holding shelf.new ≡ F.holding shelf.old }
+
+    // The first file, in order, that is too large or not what it has to be is refused.
+    ensures refused { result ≡ Status.Refused
+        → Given (λ report. OfCommand arguments.now (λ command. Refuses command (F.account shelf.old) (F.account shelf.new) report))
+        (O.account out.old) (O.account out.new) }
+
+    // The arguments are no command, and arguments that are none end so.
+    ensures usage { result ≡ Status.Usage
+        → Given (TellsUsage arguments.now (F.account shelf.old) (F.account shelf.new)) (O.account out.old) (O.account out.new) }
+    ensures must_show_usage { IsUsageError arguments.now → IsOneOf (Status.Usage ∷ interruptions) result }
+
+    // A command with a bad file is refused, one with good files alone is carried out, and one whose files
+    // call for a status ends with it, unless a call failed or memory ran out.
+    ensures must_refuse { (command : Command) → IsCommand arguments.now command
+        → HasBadFile (F.account shelf.old).holding (files_of command) → IsOneOf (Status.Refused ∷ interruptions) result }
+    ensures must_finish { (command : Command) → IsCommand arguments.now command
+        → AllByRecursion (IsGoodFile (F.account shelf.old).holding) (files_of command) → IsOneOf (finals command ++ interruptions) result }
+    ensures must_answer { (command : Command) (status : Status) → IsCommand arguments.now command
+        → Owes command status (F.account shelf.old).holding → IsOneOf (status ∷ interruptions) result }
+
+    // The take of a file failed, after those before it were read, and nothing was given. With any other
+    // status no call of the shelf failed.
+    ensures shelf_fault { result ≡ Status.ShelfFault
+        → OfCommand arguments.now (λ command. FailsAtFile command (F.account shelf.old) (F.account shelf.new)) }
+    ensures no_shelf_fault { result ≢ Status.ShelfFault → NoneFailed (F.account shelf.old) (F.account shelf.new) }
+    ensures nothing_given { result ≡ Status.ShelfFault → O.account out.new ≡ O.account out.old }
+
+    // The give failed, after a prefix of a report that tells what is so. With any other status no give
+    // failed.
+    ensures sink_fault { result ≡ Status.SinkFault → Rose (O.account out.old).faults (O.account out.new).faults }
+    ensures no_sink_fault { result ≢ Status.SinkFault → (O.account out.new).faults ≡ (O.account out.old).faults }
+    ensures given_prefix { result ≡ Status.SinkFault
+        → GivenPrefix arguments.now (F.account shelf.old) (F.account shelf.new) (O.account out.old) (O.account out.new) }
+
+    // Out of memory, and nothing was given.
+    ensures no_memory { result ≡ Status.NoMemory → (O.account out.new).written ≡ (O.account out.old).written }
+
+    // No more calls than the command has files, none where the arguments are no command; and every name
+    // holds what it held.
+    ensures takes { (command : Command) → IsCommand arguments.now command
+        → TakesAtMost (files_of command) (F.account shelf.old) (F.account shelf.new) }
+    ensures untouched { IsUsageError arguments.now → F.account shelf.new ≡ F.account shelf.old }
+    ensures holding { (F.account shelf.new).holding ≡ (F.account shelf.old).holding }
 {
     let _ = rt;
     let _ = gate;
-    match answer_of(alloc, words, shelf) {
-        Err(status) => status,
+    match answer_of(alloc, arguments, shelf) {
+        Err(Interruption::Shelf) => Status::ShelfFault,
+        Err(Interruption::Memory) => Status::NoMemory,
         Ok(answer) => match out.give(answer.text.as_bytes()) {
             Ok(()) => answer.status,
             Err(GiveFault::Failed) => Status::SinkFault,

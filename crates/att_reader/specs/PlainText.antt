@@ -12,9 +12,11 @@ use Rattle.insn_table.specs.declared.insn.Insn.{Insn}
 use Rattle.insn_table.specs.declared.insn.Function.{Function}
 use Rattle.insn_table.specs.Plain.{IsMoveOp}
 
+-- an ASCII letter
 abbrev pub is_letter : ℕ → Bool
 is_letter b = (nat_le 65 b && nat_le b 90) || (nat_le 97 b && nat_le b 122)
 
+-- a decimal digit
 abbrev pub is_digit : ℕ → Bool
 is_digit b = nat_le 48 b && nat_le b 57
 
@@ -48,6 +50,7 @@ IsImmediateText text operand =
     ((n : ℕ) × (n < 2 ^ 31) × (text ≡ codes "$" ++ decimal n) × (operand ≡ Imm n))
     ⊎ ((n : ℕ) × (n ≤ 2 ^ 31) × (text ≡ codes "$-" ++ decimal n) × (operand ≡ Imm ((2 ^ 64 - n) % 2 ^ 64)))
 
+-- the mnemonic of an operation of plain texts
 abbrev pub mnemonic : Op → List ℕ
 mnemonic Mov = codes "movq"
 mnemonic Add = codes "addq"
@@ -73,6 +76,7 @@ pub record IsMoveText (text : List ℕ) (line : ℕ) (i : Insn) : Type 0 where
   pub writes : IsRegisterText target_text target
   pub means : i ≡ insn_of op (source ∷ target ∷ Nothing ∷ Nothing ∷ []) line
 
+-- `ret`
 abbrev pub IsReturnText : List ℕ → ℕ → Insn → Type 0
 IsReturnText text line i = (text ≡ codes "ret") × (i ≡ insn_of Ret (Nothing ∷ Nothing ∷ Nothing ∷ Nothing ∷ []) line)
 

@@ -12,6 +12,7 @@ use Rattle.insn_table.specs.declared.insn.Insn.{Insn}
 use Rattle.att_reader.specs.PlainText.{is_name_start, is_digit, register_names, insn_of}
 
 infixl 10 ◌>>=◌
+-- the next reading, where there was one
 abbrev pub ◌>>=◌ : {A B : Type 0} → Option A → (A → Option B) → Option B
 o >>= f = option_and_then f o
 

@@ -24,6 +24,7 @@ numbered n (text ∷ texts) = record { text = text; number = n } ∷ numbered (n
 abbrev pub body_of : List ℕ → List Line
 body_of text = numbered 2 (drop 1 (lines text))
 
+-- a refusal at a line
 abbrev pub refusal : ℕ → ReadKind → ReadRefusal
 refusal line kind = record { line = line; kind = kind }
 

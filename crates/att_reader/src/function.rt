@@ -20,14 +20,14 @@ use align_base::Word;
 use insn_table::{Bytes, Function, Insn, Insns};
 use std::alloc::Global;
 
-// A letter, `_`, `.` or `$`.
+/// A letter, `_`, `.` or `$`.
 fn is_name_start(byte: u8) -> bool
     ensures { result ≡ is_name_start byte }
 {
     byte.is_ascii_alphabetic() || byte == b'_' || byte == b'.' || byte == b'$'
 }
 
-// Whether each byte may stand behind the first one of a name.
+/// Whether each byte may stand behind the first one of a name.
 fn are_name_bytes(bytes: &[u8]) -> bool
     ensures { result ≡ list_all (λ c. is_name_start c || is_digit c) bytes.now }
 {
@@ -39,7 +39,7 @@ fn are_name_bytes(bytes: &[u8]) -> bool
     true
 }
 
-// Whether it is a name.
+/// Whether it is a name.
 #[tactic(auto, unfolding(crate::specs::Reading::is_name))]
 fn is_name(text: &[u8]) -> bool
     ensures { result ≡ is_name text.now }
@@ -50,7 +50,7 @@ fn is_name(text: &[u8]) -> bool
     }
 }
 
-// Whether the line is the label of this name.
+/// Whether the line is the label of this name.
 fn is_label(line: &[u8], name: &[u8]) -> bool
     ensures { result ≡ bytes_eq line.now (name.now ++ codes ":") }
 {
@@ -60,7 +60,7 @@ fn is_label(line: &[u8], name: &[u8]) -> bool
     }
 }
 
-// The text behind the first line, where that is the label of this name.
+/// The text behind the first line, where that is the label of this name.
 #[tactic(auto, unfolding(crate::specs::Reading::behind_label))]
 fn behind_label<'t>(text: &'t [u8], name: &[u8]) -> Option<&'t [u8]>
     ensures { option_map (λ rest. rest.now) result ≡ behind_label text.now name.now }
@@ -73,7 +73,7 @@ fn behind_label<'t>(text: &'t [u8], name: &[u8]) -> Option<&'t [u8]>
     }
 }
 
-// The instruction of a line that stands behind a return or not.
+/// The instruction of a line that stands behind a return or not.
 #[tactic(auto, unfolding(crate::specs::ReadingLines::read_line))]
 fn read_line(returned: bool, text: &[u8], line: u32) -> Result<Insn, ReadRefusal>
     ensures { result ≡ read_line returned text.now line }
@@ -88,7 +88,7 @@ fn read_line(returned: bool, text: &[u8], line: u32) -> Result<Insn, ReadRefusal
     insn_in(text, line).ok_or(unknown)
 }
 
-// The instructions of the lines behind the label, of which the last one returns.
+/// The instructions of the lines behind the label, of which the last one returns.
 fn insns_behind(alloc: Global, text: &[u8]) -> Result<Insns, ReadRefusal>
     ensures { GivesInsns result (insns_behind false 1 (lines text.now)) }
 {
@@ -112,7 +112,7 @@ fn insns_behind(alloc: Global, text: &[u8]) -> Result<Insns, ReadRefusal>
     Ok(Insns::of(insns))
 }
 
-// The function of this name, or the first fault.
+/// The function of this name, or the first fault.
 #[tactic(auto, unfolding(crate::specs::ReadingLines::function_of))]
 fn function_of(alloc: Global, text: &[u8], name: &Word) -> Result<Function, ReadRefusal>
     ensures { Gives result (function_of text.now name.now) }
@@ -135,8 +135,8 @@ fn function_of(alloc: Global, text: &[u8], name: &Word) -> Result<Function, Read
 /// The function of this name that a plain text spells, or why the text spells none.
 ///
 /// A plain text is the label `name:` on its first line, and then an instruction a line, of which the last
-/// one alone returns. A line ends at a newline, or at a carriage return and a newline. Where memory is
-/// wanted and not found, that is the refusal.
+/// one alone returns. A line ends at a newline, or at a carriage return and a newline. Where memory runs
+/// out, that is the refusal.
 pub fn read_function(alloc: Global, text: &[u8], name: &Word) -> Result<Function, ReadRefusal>
     // What is answered is so ..
     ensures exact { Reads text.now name.now result }

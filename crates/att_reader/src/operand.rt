@@ -5,13 +5,13 @@ ghost use Rattle.att_reader.specs.Reading.{register_number, register_of, amount_
 use crate::cuts::after_byte;
 use insn_table::Operand;
 
-// The number of rsp.
+/// The number of rsp.
 const STACK_POINTER: u8 = 4;
 
-// 2^31: what an immediate may be below zero, and has to be below.
+/// 2^31: what an immediate may be below zero, and has to be below.
 const IMMEDIATE_LIMIT: u64 = 1 << 31;
 
-// The number of the register of this name.
+/// The number of the register of this name.
 #[tactic(auto, unfolding(crate::specs::Reading::register_number))]
 fn register_number(name: &[u8]) -> Option<u8>
     ensures { result ≡ register_number name.now }
@@ -37,7 +37,7 @@ fn register_number(name: &[u8]) -> Option<u8>
     }
 }
 
-// A register other than the stack pointer.
+/// A register other than the stack pointer.
 #[tactic(auto, unfolding(crate::specs::Reading::register_of))]
 pub(crate) fn register_of(text: &[u8]) -> Option<Operand>
     ensures { result ≡ register_of text.now }
@@ -50,7 +50,7 @@ pub(crate) fn register_of(text: &[u8]) -> Option<Operand>
     Some(Operand::Reg { n: number, w: 64 })
 }
 
-// A number of at most 2^31, in decimal digits with no leading zero.
+/// A number of at most 2^31, in decimal digits with no leading zero.
 #[tactic(auto, unfolding(crate::specs::Reading::amount_of, crate::specs::Reading::amount_from))]
 fn amount_of(digits: &[u8]) -> Option<u64>
     ensures { result ≡ amount_of digits.now }
@@ -72,7 +72,7 @@ fn amount_of(digits: &[u8]) -> Option<u64>
     Some(amount)
 }
 
-// A number from -2^31 to 2^31 - 1, modulo 2^64.
+/// A number from -2^31 to 2^31 - 1, modulo 2^64.
 #[tactic(auto, unfolding(crate::specs::Reading::signed_of))]
 fn signed_of(number: &[u8]) -> Option<u64>
     ensures { result ≡ signed_of number.now }
@@ -89,7 +89,7 @@ fn signed_of(number: &[u8]) -> Option<u64>
     }
 }
 
-// An immediate.
+/// An immediate.
 #[tactic(auto, unfolding(crate::specs::Reading::immediate_of))]
 fn immediate_of(text: &[u8]) -> Option<Operand>
     ensures { result ≡ immediate_of text.now }
@@ -99,7 +99,7 @@ fn immediate_of(text: &[u8]) -> Option<Operand>
     Some(Operand::Imm(value))
 }
 
-// An immediate or a register.
+/// An immediate or a register.
 #[tactic(auto, unfolding(crate::specs::Reading::source_of))]
 pub(crate) fn source_of(text: &[u8]) -> Option<Operand>
     ensures { result ≡ source_of text.now }

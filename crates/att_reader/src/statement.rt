@@ -6,7 +6,7 @@ use crate::cuts::cut_at;
 use crate::operand::{register_of, source_of};
 use insn_table::{Insn, Op, Operand};
 
-// The operation of a mnemonic with two operands.
+/// The operation of a mnemonic with two operands.
 #[tactic(auto, unfolding(crate::specs::Reading::operation_of))]
 fn operation_of(word: &[u8]) -> Option<Op>
     ensures { result ≡ operation_of word.now }
@@ -19,7 +19,7 @@ fn operation_of(word: &[u8]) -> Option<Op>
     }
 }
 
-// A mnemonic, one space, a source, a comma and a target.
+/// A mnemonic, one space, a source, a comma and a target.
 #[tactic(auto, unfolding(crate::specs::Reading::move_of))]
 fn move_of(text: &[u8], line: u32) -> Option<Insn>
     ensures { result ≡ move_of text.now line }
@@ -38,7 +38,7 @@ fn move_of(text: &[u8], line: u32) -> Option<Insn>
     })
 }
 
-// The instruction of this line, one of the four forms.
+/// The instruction of this line, one of the four forms.
 #[tactic(auto, unfolding(crate::specs::Reading::insn_in))]
 pub(crate) fn insn_in(text: &[u8], line: u32) -> Option<Insn>
     ensures { result ≡ insn_in text.now line }

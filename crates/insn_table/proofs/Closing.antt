@@ -21,23 +21,23 @@ insn op args line = record { op = op; w = 64; vex = false; args = args; line = l
 
 -- rows
 
--- the word of a plain instruction
-word_of : Op → List ℕ
-word_of Mov = codes "movq"
-word_of Add = codes "addq"
-word_of Sub = codes "subq"
-word_of Ret = codes "ret"
-word_of _ = []
+-- the mnemonic of a plain instruction
+mnemonic_of : Op → List ℕ
+mnemonic_of Mov = codes "movq"
+mnemonic_of Add = codes "addq"
+mnemonic_of Sub = codes "subq"
+mnemonic_of Ret = codes "ret"
+mnemonic_of _ = []
 
-move-named : (op : Op) → IsMoveOp op → named general_rows (word_of op) ≡ Some (general op 64)
-unfolding general_rows add_to_cltq cmova_to_cmovnc cmovne_to_cmovz cmp_to_lea mov_to_sar set_rows shl_to_xor word_of
+move-named : (op : Op) → IsMoveOp op → named general_rows (mnemonic_of op) ≡ Some (general op 64)
+unfolding general_rows add_to_cltq cmova_to_cmovnc cmovne_to_cmovz cmp_to_lea mov_to_sar set_rows shl_to_xor mnemonic_of
 move-named Mov moves = refl
 move-named Add moves = refl
 move-named Sub moves = refl
 move-named _ moves = absurd moves
 
-return_named : named general_rows (word_of Ret) ≡ Some (general Ret 64)
-unfolding general_rows add_to_cltq cmova_to_cmovnc cmovne_to_cmovz cmp_to_lea mov_to_sar set_rows shl_to_xor word_of
+return_named : named general_rows (mnemonic_of Ret) ≡ Some (general Ret 64)
+unfolding general_rows add_to_cltq cmova_to_cmovnc cmovne_to_cmovz cmp_to_lea mov_to_sar set_rows shl_to_xor mnemonic_of
 return_named = refl
 
 -- operands
@@ -95,8 +95,8 @@ move-kept op source m line n moves reads low =
     let fit = source-fits op source m line n moves reads in
     record {
       table = record {
-        word = word_of op;
-        row = named-row (word_of op) (general op 64) (move-named op moves);
+        mnemonic = mnemonic_of op;
+        row = named-row (mnemonic_of op) (general op 64) (move-named op moves);
         accepted = fit.accepted;
         registers = (fit.registers, (low, (tt, (tt, tt))));
       };
@@ -125,7 +125,7 @@ return-kept n i r =
     let known : insn Ret none i.line ≡ i = ap (λ (op : Op). insn op none i.line) (sym r.op) ∙ insn-known i none r.width r.legacy r.args in
     subst (IsKept n) known
     (record {
-      table = record { word = word_of Ret; row = named-row (word_of Ret) (general Ret 64) return_named; accepted = refl; registers = (tt, (tt, (tt, (tt, tt)))) };
+      table = record { mnemonic = mnemonic_of Ret; row = named-row (mnemonic_of Ret) (general Ret 64) return_named; accepted = refl; registers = (tt, (tt, (tt, (tt, tt)))) };
       inside = (tt, (tt, (tt, (tt, tt))));
     })
 

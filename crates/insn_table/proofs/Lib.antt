@@ -5,3 +5,4 @@ pub mod Apart
 pub mod Bools
 pub mod ClosedLists
 pub mod Closing
+pub mod Built

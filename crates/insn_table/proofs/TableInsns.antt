@@ -1,4 +1,4 @@
--- Instructions of the table have words, and fits answers such instructions.
+-- Instructions of the table have mnemonics, and fits answers such instructions.
 use Rattle.std.proofs.Common.{◌≡◌, ℕ, zero, suc, Bool, true, false, ◌&&◌, ◌||◌, not, ◌==◌, if◌then◌else◌, List, [], ◌∷◌, ◌++◌, Option, Some, None, Ok, Err, codes, refl, sym, ap, ◌∙◌, subst, arith, ◌⊎◌, inl, inr, ⊎_elim}
 use Rattle.std.specs.Prelude.{slice_get}
 use Rattle.std.specs.List.{find, list_all, AllByRecursion}
@@ -44,14 +44,14 @@ passed_at p (y ∷ ys) (suc k) x all there = passed_at p ys k x (both_true _ _ a
 unfoldable IsUsual : Shape → Type 0
 IsUsual shape = (shape.vex ≡ false) × (((shape.w == 0) ≡ false) ⊎ (is_move_by_condition shape.op ≡ true))
 
-row-usual : (word : List ℕ) (shape : Shape) → IsRowOf general_rows word shape → IsUsual shape
+row-usual : (mnemonic : List ℕ) (shape : Shape) → IsRowOf general_rows mnemonic shape → IsUsual shape
 unfolding is_usual IsUsual
-row-usual word shape row =
-    let usual : is_usual (word, shape) ≡ true = passed_at is_usual general_rows row.place (word, shape) usual_rows row.there in
+row-usual mnemonic shape row =
+    let usual : is_usual (mnemonic, shape) ≡ true = passed_at is_usual general_rows row.index (mnemonic, shape) usual_rows row.there in
     let parts = both_true (not shape.vex) (not (shape.w == 0) || is_move_by_condition shape.op) usual in
     (not-true shape.vex parts.0, ⊎_elim (λ (h : not (shape.w == 0) ≡ true). inl (not-true (shape.w == 0) h)) (λ (h : is_move_by_condition shape.op ≡ true). inr h) (either_true _ _ parts.1))
 
--- the words of moves by condition
+-- the mnemonics of moves by condition, without the suffix
 stem : Cond → List ℕ
 stem E = codes "cmove"
 stem Ne = codes "cmovne"
@@ -70,62 +70,13 @@ stem No = codes "cmovno"
 stem P = codes "cmovp"
 stem Np = codes "cmovnp"
 
-move_of_16 : (c : Cond) → named general_rows (stem c ++ codes "w") ≡ Some (general (Cmov c) 16)
+-- a move by condition has a row for each of its widths
+moves_named : (c : Cond) → (named general_rows (stem c ++ codes "w") ≡ Some (general (Cmov c) 16))
+    × (named general_rows (stem c ++ codes "l") ≡ Some (general (Cmov c) 32))
+    × (named general_rows (stem c ++ codes "q") ≡ Some (general (Cmov c) 64))
 unfolding general_rows add_to_cltq cmova_to_cmovnc cmovne_to_cmovz cmp_to_lea mov_to_sar set_rows shl_to_xor stem
-move_of_16 E = refl
-move_of_16 Ne = refl
-move_of_16 B = refl
-move_of_16 Ae = refl
-move_of_16 Be = refl
-move_of_16 A = refl
-move_of_16 L = refl
-move_of_16 Ge = refl
-move_of_16 Le = refl
-move_of_16 G = refl
-move_of_16 S = refl
-move_of_16 Ns = refl
-move_of_16 O = refl
-move_of_16 No = refl
-move_of_16 P = refl
-move_of_16 Np = refl
-
-move_of_32 : (c : Cond) → named general_rows (stem c ++ codes "l") ≡ Some (general (Cmov c) 32)
-unfolding general_rows add_to_cltq cmova_to_cmovnc cmovne_to_cmovz cmp_to_lea mov_to_sar set_rows shl_to_xor stem
-move_of_32 E = refl
-move_of_32 Ne = refl
-move_of_32 B = refl
-move_of_32 Ae = refl
-move_of_32 Be = refl
-move_of_32 A = refl
-move_of_32 L = refl
-move_of_32 Ge = refl
-move_of_32 Le = refl
-move_of_32 G = refl
-move_of_32 S = refl
-move_of_32 Ns = refl
-move_of_32 O = refl
-move_of_32 No = refl
-move_of_32 P = refl
-move_of_32 Np = refl
-
-move_of_64 : (c : Cond) → named general_rows (stem c ++ codes "q") ≡ Some (general (Cmov c) 64)
-unfolding general_rows add_to_cltq cmova_to_cmovnc cmovne_to_cmovz cmp_to_lea mov_to_sar set_rows shl_to_xor stem
-move_of_64 E = refl
-move_of_64 Ne = refl
-move_of_64 B = refl
-move_of_64 Ae = refl
-move_of_64 Be = refl
-move_of_64 A = refl
-move_of_64 L = refl
-move_of_64 Ge = refl
-move_of_64 Le = refl
-move_of_64 G = refl
-move_of_64 S = refl
-move_of_64 Ns = refl
-move_of_64 O = refl
-move_of_64 No = refl
-move_of_64 P = refl
-move_of_64 Np = refl
+moves_named E = (refl, refl, refl)
+moves_named _ = (refl, refl, refl)
 
 -- the widths of moves by condition
 pub wide-cases : (w : ℕ) → has_wide_form w ≡ true → (w ≡ 16) ⊎ ((w ≡ 32) ⊎ (w ≡ 64))
@@ -134,18 +85,18 @@ wide-cases w h =
     (λ (e : (w == 32 || w == 64) ≡ true). ⊎_elim (λ (f : (w == 32) ≡ true). inr (inl ((Decides-eqb w 32).0 f))) (λ (f : (w == 64) ≡ true). inr (inr ((Decides-eqb w 64).0 f))) (either_true _ _ e))
     (either_true _ _ h)
 
-unfoldable HasWord : Shape → Type 0
-HasWord shape = (word : List ℕ) × IsRowOf general_rows word shape
+unfoldable HasMnemonic : Shape → Type 0
+HasMnemonic shape = (mnemonic : List ℕ) × IsRowOf general_rows mnemonic shape
 
-move_at : (c : Cond) (v w : ℕ) (word : List ℕ) → w ≡ v → named general_rows word ≡ Some (general (Cmov c) v) → HasWord (general (Cmov c) w)
-unfolding HasWord
-move_at c v w word e h = subst (λ (x : ℕ). (word : List ℕ) × IsRowOf general_rows word (general (Cmov c) x)) (sym e) (word, named-row word (general (Cmov c) v) h)
+move_at : (c : Cond) (v w : ℕ) (mnemonic : List ℕ) → w ≡ v → named general_rows mnemonic ≡ Some (general (Cmov c) v) → HasMnemonic (general (Cmov c) w)
+unfolding HasMnemonic
+move_at c v w mnemonic e h = subst (λ (x : ℕ). (mnemonic : List ℕ) × IsRowOf general_rows mnemonic (general (Cmov c) x)) (sym e) (mnemonic, named-row mnemonic (general (Cmov c) v) h)
 
 -- each move by condition has a row with its width
-move-row : (c : Cond) (w : ℕ) → has_wide_form w ≡ true → HasWord (general (Cmov c) w)
+move-row : (c : Cond) (w : ℕ) → has_wide_form w ≡ true → HasMnemonic (general (Cmov c) w)
 move-row c w h =
-    ⊎_elim (λ (e : w ≡ 16). move_at c 16 w (stem c ++ codes "w") e (move_of_16 c))
-    (λ (e : (w ≡ 32) ⊎ (w ≡ 64)). ⊎_elim (λ (f : w ≡ 32). move_at c 32 w (stem c ++ codes "l") f (move_of_32 c)) (λ (f : w ≡ 64). move_at c 64 w (stem c ++ codes "q") f (move_of_64 c)) e)
+    ⊎_elim (λ (e : w ≡ 16). move_at c 16 w (stem c ++ codes "w") e (moves_named c).0)
+    (λ (e : (w ≡ 32) ⊎ (w ≡ 64)). ⊎_elim (λ (f : w ≡ 32). move_at c 32 w (stem c ++ codes "l") f (moves_named c).1) (λ (f : w ≡ 64). move_at c 64 w (stem c ++ codes "q") f (moves_named c).2) e)
     (wide-cases w h)
 
 judged-same : (b : Bool) (i j : Insn) → (if b then Ok i else Err BadNumber) ≡ Ok j → (i ≡ j) × (b ≡ true)
@@ -187,14 +138,14 @@ insn-again i wide complete =
     let width : width_of (shape_of i) i.args ≡ i.w = rw wide refl in
     (λ k. record { op = i.op; w = width k; vex = i.vex; args = complete k; line = i.line })
 
--- what is judged good, has a word, a width and complete operands, is an instruction of the table
-of_table : (i j : Insn) → HasWord (shape_of i) → (i.w == 0) ≡ false → completed i.op i.args ≡ i.args → judged_by (form_of i) i ≡ Ok j → AllByRecursion HasRegisters j.args → IsTableInsn j
-unfolding HasWord
+-- what is judged good, has a mnemonic, a width and complete operands, is an instruction of the table
+of_table : (i j : Insn) → HasMnemonic (shape_of i) → (i.w == 0) ≡ false → completed i.op i.args ≡ i.args → judged_by (form_of i) i ≡ Ok j → AllByRecursion HasRegisters j.args → IsTableInsn j
+unfolding HasMnemonic
 of_table i j row wide complete good registers =
     let same : i ≡ j = (judged-ok (form_of i) i j good).0 in
     let again : fits_of (shape_of i) i.args i.line ≡ judged_by (form_of i) i = ap (λ (x : Insn). judged_by (form_of x) x) (insn-again i wide complete) in
     subst IsTableInsn same (record {
-      word = row.0;
+      mnemonic = row.0;
       row = row.1;
       accepted = again ∙ (good ∙ ap (λ (x : Insn). Ok x) (sym same));
       registers = subst (λ (x : Insn). AllByRecursion HasRegisters x.args) (sym same) registers;
@@ -218,18 +169,18 @@ pub form-wide : (op : Op) (w : ℕ) (p : Form → Bool) (form : Form) → is_mov
 form-wide (Cmov c) w p form move h = found_only_wide (has_wide_form w) p _ form h
 form-wide _ w p form move h = cc
 
-pub table-word : (i : Insn) → IsTableInsn i → (word : List ℕ) × (named general_rows word ≡ Some (shape_of i))
-table-word i t = (t.word, rows-named t.row.place (t.word, shape_of i) t.row.there)
+pub table-mnemonic : (i : Insn) → IsTableInsn i → (mnemonic : List ℕ) × (named general_rows mnemonic ≡ Some (shape_of i))
+table-mnemonic i t = (t.mnemonic, rows-named t.row.index (t.mnemonic, shape_of i) t.row.there)
 
 -- what fits answers for a shape with a width
-fitted_with_width : (shape : Shape) (args : List Operand) (line : ℕ) (word : List ℕ) (i : Insn) → IsRowOf general_rows word shape → (shape.w == 0) ≡ false
+fitted_with_width : (shape : Shape) (args : List Operand) (line : ℕ) (mnemonic : List ℕ) (i : Insn) → IsRowOf general_rows mnemonic shape → (shape.w == 0) ≡ false
     → fits_of shape args line ≡ Ok i → AllByRecursion HasRegisters i.args → IsTableInsn i
-unfolding HasWord
-fitted_with_width shape args line word i row wide good registers =
+unfolding HasMnemonic
+fitted_with_width shape args line mnemonic i row wide good registers =
     let width : width_of shape args ≡ shape.w = rw wide refl in
     let same : shape ≡ shape_of (insn_of shape args line) = (λ k. record { op = shape.op; w = sym width k; vex = shape.vex }) in
     of_table (insn_of shape args line) i
-    (subst (λ (x : Shape). (word : List ℕ) × IsRowOf general_rows word x) same (word, row))
+    (subst (λ (x : Shape). (mnemonic : List ℕ) × IsRowOf general_rows mnemonic x) same (mnemonic, row))
     (subst (λ (x : ℕ). (x == 0) ≡ false) (sym width) wide)
     (completed-twice shape.op args) good registers
 
@@ -242,20 +193,20 @@ fitted_move shape args line i legacy move good registers =
     let known = move-known shape.op move in
     let same : general (Cmov known.0) (width_of shape args) ≡ shape_of (insn_of shape args line) = (λ k. record { op = sym known.1 k; w = width_of shape args; vex = sym legacy k }) in
     of_table (insn_of shape args line) i
-    (subst HasWord same (move-row known.0 (width_of shape args) wide))
+    (subst HasMnemonic same (move-row known.0 (width_of shape args) wide))
     (wide_has_width (width_of shape args) wide)
     (completed-twice shape.op args) good registers
 
-fitted_with : (shape : Shape) (args : List Operand) (line : ℕ) (word : List ℕ) (i : Insn) → IsRowOf general_rows word shape → IsUsual shape → fits_of shape args line ≡ Ok i → AllByRecursion HasRegisters i.args → IsTableInsn i
+fitted_with : (shape : Shape) (args : List Operand) (line : ℕ) (mnemonic : List ℕ) (i : Insn) → IsRowOf general_rows mnemonic shape → IsUsual shape → fits_of shape args line ≡ Ok i → AllByRecursion HasRegisters i.args → IsTableInsn i
 unfolding IsUsual
-fitted_with shape args line word i row usual good registers =
-    ⊎_elim (λ (wide : (shape.w == 0) ≡ false). fitted_with_width shape args line word i row wide good registers)
+fitted_with shape args line mnemonic i row usual good registers =
+    ⊎_elim (λ (wide : (shape.w == 0) ≡ false). fitted_with_width shape args line mnemonic i row wide good registers)
     (λ (move : is_move_by_condition shape.op ≡ true). fitted_move shape args line i usual.0 move good registers) usual.1
 
-pub fitted-insn : (word : List ℕ) (shape : Shape) (args : List Operand) (line : ℕ) (i : Insn) → named general_rows word ≡ Some shape → fits_of shape args line ≡ Ok i → AllByRecursion HasRegisters i.args → IsTableInsn i
-fitted-insn word shape args line i h good registers =
-    let row = named-row word shape h in fitted_with shape args line word i row (row-usual word shape row) good registers
+pub fitted-insn : (mnemonic : List ℕ) (shape : Shape) (args : List Operand) (line : ℕ) (i : Insn) → named general_rows mnemonic ≡ Some shape → fits_of shape args line ≡ Ok i → AllByRecursion HasRegisters i.args → IsTableInsn i
+fitted-insn mnemonic shape args line i h good registers =
+    let row = named-row mnemonic shape h in fitted_with shape args line mnemonic i row (row-usual mnemonic shape row) good registers
 
-pub ruleset words = (table-word)
+pub ruleset mnemonics = (table-mnemonic)
 
 pub ruleset fitted = (fitted-insn)

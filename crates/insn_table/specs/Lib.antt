@@ -3,3 +3,4 @@ pub mod Plain
 pub mod Spellings
 pub mod Forms
 pub mod Table
+pub mod Building

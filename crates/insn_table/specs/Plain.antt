@@ -56,6 +56,7 @@ IsFree (Pool n) = Unit {0}
 IsFree (Target n) = Unit {0}
 IsFree Nothing = Unit {0}
 
+-- a move, a sum or a difference
 abbrev pub IsMoveOp : Op → Type 0
 IsMoveOp Mov = Unit {0}
 IsMoveOp Add = Unit {0}

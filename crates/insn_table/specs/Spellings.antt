@@ -1,6 +1,6 @@
--- The spellings of the general instructions, one row each: the word, its operation, and the width of its
+-- The spellings of the general instructions, one row each: the mnemonic, its operation, and the width of its
 -- form in bits. The width is 0 where the suffix is left out, and 64 where the form has no width. The rows
--- stand in byte order of their words. A new row takes a line here and one in src/spellings.rt.
+-- stand in byte order of their mnemonics. A new row takes a line here and one in src/spellings.rt.
 use Rattle.std.specs.Prelude.{◌≡◌, ℕ, Bool, true, false, ◌&&◌, List, [], ◌∷◌, ◌++◌, Option, Some, None, bytes_eq, codes, slice_get, if◌then◌else◌}
 use Rattle.align_base.specs.declared.op.Cond.TheVariants.{E, Ne, B, Ae, Be, A, L, Ge, Le, G, S, Ns, O, No, P, Np}
 use Rattle.align_base.specs.declared.op.Op.{Op}
@@ -9,20 +9,22 @@ use Rattle.std.specs.Ordering.{nat_cmp, is_lt}
 use Rattle.std.specs.Cmp.Lexicographic.{slice_cmp}
 use Rattle.insn_table.specs.declared.shape.Shape.{Shape}
 
+-- a row: its mnemonic and its shape
 abbrev pub Row : Type 0
 Row = List ℕ × Shape
 
+-- the shape of a general instruction, which has no VEX form
 abbrev pub general : Op → ℕ → Shape
 general op w = record { op = op; w = w; vex = false }
 
--- a row by its word, operation and width
+-- a row by its mnemonic, operation and width
 abbrev pub row : List ℕ → Op → ℕ → Row
-row word op w = (word, general op w)
+row mnemonic op w = (mnemonic, general op w)
 
--- the shape of the first row with this word
+-- the shape of the first row with this mnemonic
 abbrev pub named : List Row → List ℕ → Option Shape
-named [] word = None
-named (row ∷ rows) word = if bytes_eq row.0 word then Some row.1 else named rows word
+named [] mnemonic = None
+named (row ∷ rows) mnemonic = if bytes_eq row.0 mnemonic then Some row.1 else named rows mnemonic
 
 -- the rows from add to cltq
 unfoldable pub add_to_cltq : List Row
@@ -330,19 +332,20 @@ shl_to_xor =
 
 -- all rows
 unfoldable pub general_rows : List Row
-general_rows = add_to_cltq ++ (cmova_to_cmovnc ++ (cmovne_to_cmovz ++ (cmp_to_lea ++ (mov_to_sar ++ (set_rows ++ shl_to_xor)))))
+general_rows =
+    add_to_cltq ++ (cmova_to_cmovnc ++ (cmovne_to_cmovz ++ (cmp_to_lea ++ (mov_to_sar ++ (set_rows ++ shl_to_xor)))))
 
--- whether each word stands behind the one before it in byte order, the first behind this word
+-- whether each mnemonic stands behind the one before it in byte order, the first behind this mnemonic
 abbrev pub in_order_after : List ℕ → List Row → Bool
-in_order_after word [] = true
-in_order_after word (row ∷ rows) = is_lt (slice_cmp nat_cmp word row.0) && in_order_after row.0 rows
+in_order_after mnemonic [] = true
+in_order_after mnemonic (row ∷ rows) = is_lt (slice_cmp nat_cmp mnemonic row.0) && in_order_after row.0 rows
 
--- whether the words rise strictly in byte order
+-- whether the mnemonics rise strictly in byte order
 abbrev pub in_order : List Row → Bool
 in_order [] = true
 in_order (row ∷ rows) = in_order_after row.0 rows
 
--- a row has this word and this shape
-pub record IsRowOf (rows : List Row) (word : List ℕ) (shape : Shape) : Type 0 where
-  pub place : ℕ
-  pub there : slice_get rows place ≡ Some (word, shape)
+-- a row has this mnemonic and this shape
+pub record IsRowOf (rows : List Row) (mnemonic : List ℕ) (shape : Shape) : Type 0 where
+  pub index : ℕ
+  pub there : slice_get rows index ≡ Some (mnemonic, shape)

@@ -12,6 +12,7 @@ use Rattle.insn_table.specs.Forms.{fits_of}
 abbrev pub shape_of : Insn → Shape
 shape_of i = record { op = i.op; w = i.w; vex = i.vex }
 
+-- 1, 2, 4 or 8
 abbrev pub IsScale : ℕ → Type 0
 IsScale s = (s ≡ 1) ⊎ ((s ≡ 2) ⊎ ((s ≡ 4) ⊎ (s ≡ 8)))
 
@@ -19,15 +20,16 @@ IsScale s = (s ≡ 1) ⊎ ((s ≡ 2) ⊎ ((s ≡ 4) ⊎ (s ≡ 8)))
 abbrev pub HasRegisters : Operand → Type 0
 HasRegisters (Reg n w) = n < 16
 HasRegisters (Imm v) = Unit {0}
-HasRegisters (Mem base index scale disp) = IfSome base (λ n. n < 16) × IfSome index (λ n. n < 16) × IsScale scale
+HasRegisters (Mem base index scale disp) =
+    IfSome base (λ n. n < 16) × IfSome index (λ n. n < 16) × IsScale scale
 HasRegisters (Vec n w) = n < 16
 HasRegisters (Pool at) = Unit {0}
 HasRegisters (Target place) = Unit {0}
 HasRegisters Nothing = Unit {0}
 
--- a word of the table names the instruction's shape, and fits takes its operands as they are
+-- a mnemonic of the table names the instruction's shape, and fits takes its operands as they are
 pub record IsTableInsn (i : Insn) : Type 0 where
-  pub word : List ℕ
-  pub row : IsRowOf general_rows word (shape_of i)
+  pub mnemonic : List ℕ
+  pub row : IsRowOf general_rows mnemonic (shape_of i)
   pub accepted : fits_of (shape_of i) i.args i.line ≡ Ok i
   pub registers : AllByRecursion HasRegisters i.args

@@ -8,21 +8,30 @@ use crate::forms::{Class, forms_of, is_memory, takes_kind};
 use crate::insn::{Insn, Operand};
 use crate::shape::Shape;
 use align_base::Op;
+use thiserror::Error;
 
 /// Why operands make no instruction of a shape.
-#[derive(Clone, Copy, Debug, PartialEq, Eq)]
+#[derive(Clone, Copy, Debug, PartialEq, Eq, Error)]
 pub enum Misfit {
     /// No form takes these kinds of operands.
+    #[error("the instruction takes no such operands")]
     BadOperand,
     /// A form takes these kinds of operands, and an immediate or a count is out of range.
+    #[error("an immediate or a count is out of range")]
     BadNumber,
 }
 
-/// The instruction that this shape makes with these operands. A width that was left out, and the
-/// count of a shift that has none, are written out in it.
+/// The instruction that this shape makes with these operands, or why it makes none. A width that was
+/// left out, and the count of a shift that has none, are written out in it. `line` is kept as it is.
+///
+/// Which operands an instruction takes, and the ranges of immediates, are in the instruction's section
+/// of Intel's SDM, volume 2; that no two operands are in memory is in section 2.1.3, "ModR/M and SIB
+/// Bytes".
 pub fn fits(shape: Shape, args: [Operand; 4], line: u32) -> Result<Insn, Misfit>
     ensures is { result ≡ fits_of shape args line }
     ensures ok { IfOk result (λ i. i ≡ insn_of shape args line) }
+
+    // No form takes these kinds of operands; and one does, but not these numbers.
     ensures bad_operand { (result ≡ Err Misfit.BadOperand) ↔ (HasForm (insn_of shape args line) → ⊥) }
     ensures bad_number { (result ≡ Err Misfit.BadNumber) ↔ HasBadNumber (insn_of shape args line) }
 {
@@ -165,7 +174,7 @@ fn number_fits(class: Class, operand: Operand) -> bool
     }
 }
 
-/// Whether a number is in the range of this place of a form.
+/// Whether a number is in the range of this class.
 fn is_within(class: Class, v: u64) -> bool
     ensures { result ≡ is_within class v }
 {

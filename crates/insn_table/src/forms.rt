@@ -7,13 +7,13 @@ use crate::insn::Operand;
 use align_base::Op;
 use std::marker::Model;
 
-/// What a form takes at one place. The numbers are widths in bits.
+/// What one operand of a form may be. The numbers are widths in bits.
 #[derive(Clone, Copy, Debug, PartialEq, Eq)]
 pub enum Class {
     /// A general register.
     Register(u32),
     /// What may be written: a general register or memory.
-    Place(u32),
+    Writable(u32),
     /// What is only read: a general register, memory or the pool.
     Readable(u32),
     /// An immediate, or what is only read.
@@ -26,7 +26,7 @@ pub enum Class {
     Count(u32),
     /// Memory, of which the address alone is taken.
     Address,
-    /// The place that a jump goes to.
+    /// The target of a jump.
     Label,
     /// No operand.
     Absent,
@@ -116,12 +116,12 @@ pub fn forms_of(op: Op, w: u32) -> Forms
 {
     match op {
         Op::Mov | Op::Add | Op::Sub | Op::And | Op::Or | Op::Xor => {
-            Forms::one(two(Class::Source(w), Class::Place(w)))
+            Forms::one(two(Class::Source(w), Class::Writable(w)))
         }
         Op::Cmp | Op::Test => Forms::one(two(Class::Source(w), Class::Readable(w))),
         Op::Movabs => Forms::one(two(Class::Wide, Class::Register(w))),
-        Op::Inc | Op::Dec | Op::Neg | Op::Not | Op::Set(_) => Forms::one(one(Class::Place(w))),
-        Op::Shl | Op::Shr | Op::Sar => Forms::one(two(Class::Count(w), Class::Place(w))),
+        Op::Inc | Op::Dec | Op::Neg | Op::Not | Op::Set(_) => Forms::one(one(Class::Writable(w))),
+        Op::Shl | Op::Shr | Op::Sar => Forms::one(two(Class::Count(w), Class::Writable(w))),
         Op::Imul => Forms::three(
             two(Class::Readable(w), Class::Register(w)),
             two(Class::Immediate(w), Class::Register(w)),
@@ -148,13 +148,13 @@ fn move_by_condition(w: u32) -> Forms
     }
 }
 
-/// Whether a place of a form takes this kind of operand, whatever its number.
+/// Whether an operand is of this class, whatever its number.
 pub fn takes_kind(class: Class, operand: Operand) -> bool
     ensures { result ≡ takes_kind class operand }
 {
     match class {
         Class::Register(w) => is_register(w, operand),
-        Class::Place(w) => is_register(w, operand) || is_addressed(operand),
+        Class::Writable(w) => is_register(w, operand) || is_addressed(operand),
         Class::Readable(w) => is_register(w, operand) || is_memory(operand),
         Class::Source(w) => { is_number(operand) || is_register(w, operand) || is_memory(operand) }
         Class::Immediate(_) | Class::Wide | Class::Count(_) => is_number(operand),

@@ -1,21 +1,20 @@
-ghost use Rattle.std.specs.Prelude.{◌≡◌, ◌==◌, length};
-
-use crate::bytes::Bytes;
+//! Instructions, their operands, and functions of them.
+use crate::items::{Bytes, Items};
 use align_base::{Op, Word};
-use std::marker::Model;
 
 /// An operand of an instruction.
 #[derive(Clone, Copy, Debug, PartialEq, Eq)]
 pub enum Operand {
     /// General register `n`, numbered as in rax, rcx, rdx, rbx, rsp, rbp, rsi, rdi, r8 to r15, of
-    /// `w` bits.
+    /// `w` bits (Intel SDM, volume 2, section 3.1.1.1, table 3-1, "Register Codes").
     Reg {
         n: u8,
         w: u32,
     },
     /// An immediate, modulo 2^64.
     Imm(u64),
-    /// Memory at the sum of base, scaled index and displacement, modulo 2^64.
+    /// Memory at the sum of base, scaled index and displacement, modulo 2^64 (Intel SDM, volume 1,
+    /// section 3.7.5, "Specifying an Offset"). The scale is 1, 2, 4 or 8.
     Mem {
         base: Option<u8>,
         index: Option<u8>,
@@ -46,50 +45,8 @@ pub struct Insn {
     pub line: u32,
 }
 
-/// A list of instructions, which contracts see as a list.
-#[derive(Drop)]
-pub struct Insns {
-    kept: Vec<Insn>,
-}
-
-impl Model for Insns {
-    ghost use Rattle.std.specs.Prelude.{List};
-    ghost use Rattle.insn_table.specs.declared.insn.Insn.{Insn};
-
-    ghost Value = { List Insn };
-
-    ghost view = { λ insns. insns.kept.items };
-}
-
-impl Insns {
-    /// The list of these instructions.
-    pub fn of(kept: Vec<Insn>) -> Insns
-        ensures { result ≡ kept.items }
-    {
-        Insns { kept }
-    }
-
-    /// Its instructions.
-    pub fn as_slice(&self) -> &[Insn]
-        ensures { result.now ≡ self.now }
-    {
-        self.kept.as_slice()
-    }
-
-    /// How many there are.
-    pub fn len(&self) -> usize
-        ensures { result ≡ length self.now }
-    {
-        self.kept.len()
-    }
-
-    /// Whether there is none.
-    pub fn is_empty(&self) -> bool
-        ensures { result ≡ (length self.now == 0) }
-    {
-        self.kept.is_empty()
-    }
-}
+/// A list of instructions.
+pub type Insns = Items<Insn>;
 
 /// A function of a text: its name, its instructions, and the bytes of its pool of constants.
 #[derive(Drop)]

@@ -1,25 +1,45 @@
 //! The instructions that `align` reads and runs, and functions made of them.
 //!
-//! Operands stand in the order of GNU AT&T text: sources first, the destination last.
+//! The instruction table has a row for each mnemonic: its operation and the width of its form. Each
+//! operation has its forms, which say by a class for each operand what the operation takes. `look_up`
+//! finds a mnemonic's row, `fits` makes an instruction of a row's shape and operands, and `assemble`
+//! does both. What they answer is exactly what `specs/` says, with the reason of each refusal: an
+//! instruction that was made is one of the table (`IsTableInsn`).
+//!
+//! A `FunctionBuilder` makes closed functions: each instruction is one of the table, each jump goes to
+//! one of them, and the last one returns or jumps (`IsClosed`).
+//!
+//!     let mut builder = FunctionBuilder::new(alloc);
+//!     builder.push(b"decl", &[eax])?;
+//!     builder.push(b"jne", &[Operand::Target(0)])?;
+//!     builder.push(b"ret", &[])?;
+//!     let function = builder.finish(name)?;
+//!
+//! Operands stand in the order of GNU AT&T text: sources first, the destination last. The operations,
+//! their operands and ranges are those of Intel's "Software Developer's Manual", volume 2.
 #![tactic(auto)]
 
-mod bytes;
+mod assembling;
+mod build_error;
+mod builder;
 mod fitting;
 mod forms;
 mod insn;
+mod items;
 mod shape;
 mod spellings;
 mod table;
-#[cfg(test)]
-mod tests;
 
 pub use align_base::{Cond, Flags, Op};
-pub use bytes::Bytes;
+pub use assembling::{Statement, assemble};
+pub use build_error::BuildError;
+pub use builder::{FunctionBuilder, assemble_function};
 pub use fitting::{Misfit, fits};
 pub use insn::{Function, Insn, Insns, Operand};
+pub use items::{Bytes, Items};
 pub use shape::Shape;
-pub use spellings::{look_up, rows_are_named, words_stand_once};
+pub use spellings::{look_up, mnemonics_stand_once, rows_are_named};
 pub use table::{
     fitted_insns_are_of_the_table, forms_are_apart, plain_functions_are_closed,
-    table_insns_have_words,
+    table_insns_have_mnemonics,
 };

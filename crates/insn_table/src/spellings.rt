@@ -1,4 +1,5 @@
-//! The words of the instruction table and what they name.
+//! The mnemonics of the instruction table and what they name: one row each, in byte order, as in
+//! `specs/Spellings`.
 ghost use Rattle.std.specs.Prelude.{◌≡◌, ℕ, List, true, Some, map, slice_get};
 ghost use Rattle.insn_table.specs.Spellings.{Row, general, named, general_rows, in_order, IsRowOf, add_to_cltq, cmova_to_cmovnc, cmovne_to_cmovz, cmp_to_lea, mov_to_sar, set_rows, shl_to_xor};
 ghost use Rattle.insn_table.specs.declared.shape.Shape.{Shape};
@@ -6,56 +7,56 @@ ghost use Rattle.insn_table.specs.declared.shape.Shape.{Shape};
 use crate::shape::Shape;
 use align_base::{Cond, Op};
 
-/// The shape that this word names: None where it names no instruction.
+/// The shape that this mnemonic names: None where it names no instruction.
 #[tactic(auto, using(crate::proofs::Rows::found), unfolding(crate::specs::Spellings::general_rows))]
-pub fn look_up(word: &[u8]) -> Option<Shape>
-    ensures { result ≡ named general_rows word.now }
+pub fn look_up(mnemonic: &[u8]) -> Option<Shape>
+    ensures { result ≡ named general_rows mnemonic.now }
 {
-    if let Some(shape) = add_to_cltq(word) {
+    if let Some(shape) = add_to_cltq(mnemonic) {
         return Some(shape);
     }
-    if let Some(shape) = cmova_to_cmovnc(word) {
+    if let Some(shape) = cmova_to_cmovnc(mnemonic) {
         return Some(shape);
     }
-    if let Some(shape) = cmovne_to_cmovz(word) {
+    if let Some(shape) = cmovne_to_cmovz(mnemonic) {
         return Some(shape);
     }
-    if let Some(shape) = cmp_to_lea(word) {
+    if let Some(shape) = cmp_to_lea(mnemonic) {
         return Some(shape);
     }
-    if let Some(shape) = mov_to_sar(word) {
+    if let Some(shape) = mov_to_sar(mnemonic) {
         return Some(shape);
     }
-    if let Some(shape) = set_rows(word) {
+    if let Some(shape) = set_rows(mnemonic) {
         return Some(shape);
     }
-    shl_to_xor(word)
+    shl_to_xor(mnemonic)
 }
 
-/// A law: the words of the rows rise strictly in byte order, so no word stands twice.
+/// A law: the mnemonics of the rows rise strictly in byte order, so no mnemonic stands twice.
 #[tactic(auto, using(crate::proofs::Rows::once))]
-pub fn words_stand_once()
+pub fn mnemonics_stand_once()
     ensures in_order { in_order general_rows ≡ true }
     ensures once { (i j : ℕ) (row other : Row) → slice_get general_rows i ≡ Some row
         → slice_get general_rows j ≡ Some other → row.0 ≡ other.0 → i ≡ j }
 {}
 
-/// A law: the word of each row names the row's shape, and only those words name anything.
+/// A law: the mnemonic of each row names the row's shape, and only those mnemonics name anything.
 #[tactic(auto, using(crate::proofs::Rows::naming))]
 pub fn rows_are_named()
     ensures named { (k : ℕ) (row : Row) → slice_get general_rows k ≡ Some row
         → named general_rows row.0 ≡ Some row.1 }
-    ensures row { (word : List ℕ) (shape : Shape) → named general_rows word ≡ Some shape
-        → IsRowOf general_rows word shape }
+    ensures row { (mnemonic : List ℕ) (shape : Shape) → named general_rows mnemonic ≡ Some shape
+        → IsRowOf general_rows mnemonic shape }
 {}
 
-/// The shape of the first of these rows with this word.
-fn find(rows: &[(&str, Op, u32)], word: &[u8]) -> Option<Shape>
-    ensures { result ≡ named (map (λ row. (row.0.now, general row.1 row.2)) rows.now) word.now }
+/// The shape of the first of these rows with this mnemonic.
+fn find(rows: &[(&str, Op, u32)], mnemonic: &[u8]) -> Option<Shape>
+    ensures { result ≡ named (map (λ row. (row.0.now, general row.1 row.2)) rows.now) mnemonic.now }
 {
     let mut rest = rows;
     while let [row, after @ ..] = rest {
-        if row.0.as_bytes() == word {
+        if row.0.as_bytes() == mnemonic {
             return Some(Shape {
                 op: row.1,
                 w: row.2,
@@ -69,8 +70,8 @@ fn find(rows: &[(&str, Op, u32)], word: &[u8]) -> Option<Shape>
 
 /// The rows from `add` to `cltq`.
 #[tactic(auto, unfolding(crate::specs::Spellings::add_to_cltq))]
-fn add_to_cltq(word: &[u8]) -> Option<Shape>
-    ensures { result ≡ named add_to_cltq word.now }
+fn add_to_cltq(mnemonic: &[u8]) -> Option<Shape>
+    ensures { result ≡ named add_to_cltq mnemonic.now }
 {
     find(
         &[
@@ -84,14 +85,14 @@ fn add_to_cltq(word: &[u8]) -> Option<Shape>
             ("andw", Op::And, 16),
             ("cltq", Op::Cltq, 64),
         ],
-        word,
+        mnemonic,
     )
 }
 
 /// The rows of `cmovCC`, from `a` to `nc`.
 #[tactic(auto, unfolding(crate::specs::Spellings::cmova_to_cmovnc))]
-fn cmova_to_cmovnc(word: &[u8]) -> Option<Shape>
-    ensures { result ≡ named cmova_to_cmovnc word.now }
+fn cmova_to_cmovnc(mnemonic: &[u8]) -> Option<Shape>
+    ensures { result ≡ named cmova_to_cmovnc mnemonic.now }
 {
     find(
         &[
@@ -156,14 +157,14 @@ fn cmova_to_cmovnc(word: &[u8]) -> Option<Shape>
             ("cmovncq", Op::Cmov(Cond::Ae), 64),
             ("cmovncw", Op::Cmov(Cond::Ae), 16),
         ],
-        word,
+        mnemonic,
     )
 }
 
 /// The rows of `cmovCC`, from `ne` to `z`.
 #[tactic(auto, unfolding(crate::specs::Spellings::cmovne_to_cmovz))]
-fn cmovne_to_cmovz(word: &[u8]) -> Option<Shape>
-    ensures { result ≡ named cmovne_to_cmovz word.now }
+fn cmovne_to_cmovz(mnemonic: &[u8]) -> Option<Shape>
+    ensures { result ≡ named cmovne_to_cmovz mnemonic.now }
 {
     find(
         &[
@@ -228,14 +229,14 @@ fn cmovne_to_cmovz(word: &[u8]) -> Option<Shape>
             ("cmovzq", Op::Cmov(Cond::E), 64),
             ("cmovzw", Op::Cmov(Cond::E), 16),
         ],
-        word,
+        mnemonic,
     )
 }
 
 /// The rows from `cmp` to `lea`, with `jCC` and `jmp`.
 #[tactic(auto, unfolding(crate::specs::Spellings::cmp_to_lea))]
-fn cmp_to_lea(word: &[u8]) -> Option<Shape>
-    ensures { result ≡ named cmp_to_lea word.now }
+fn cmp_to_lea(mnemonic: &[u8]) -> Option<Shape>
+    ensures { result ≡ named cmp_to_lea mnemonic.now }
 {
     find(
         &[
@@ -289,14 +290,14 @@ fn cmp_to_lea(word: &[u8]) -> Option<Shape>
             ("leal", Op::Lea, 32),
             ("leaq", Op::Lea, 64),
         ],
-        word,
+        mnemonic,
     )
 }
 
 /// The rows from `mov` to `sar`.
 #[tactic(auto, unfolding(crate::specs::Spellings::mov_to_sar))]
-fn mov_to_sar(word: &[u8]) -> Option<Shape>
-    ensures { result ≡ named mov_to_sar word.now }
+fn mov_to_sar(mnemonic: &[u8]) -> Option<Shape>
+    ensures { result ≡ named mov_to_sar mnemonic.now }
 {
     find(
         &[
@@ -342,14 +343,14 @@ fn mov_to_sar(word: &[u8]) -> Option<Shape>
             ("sarq", Op::Sar, 64),
             ("sarw", Op::Sar, 16),
         ],
-        word,
+        mnemonic,
     )
 }
 
 /// The rows of `setCC`.
 #[tactic(auto, unfolding(crate::specs::Spellings::set_rows))]
-fn set_rows(word: &[u8]) -> Option<Shape>
-    ensures { result ≡ named set_rows word.now }
+fn set_rows(mnemonic: &[u8]) -> Option<Shape>
+    ensures { result ≡ named set_rows mnemonic.now }
 {
     find(
         &[
@@ -384,14 +385,14 @@ fn set_rows(word: &[u8]) -> Option<Shape>
             ("sets", Op::Set(Cond::S), 8),
             ("setz", Op::Set(Cond::E), 8),
         ],
-        word,
+        mnemonic,
     )
 }
 
 /// The rows from `shl` to `xor`.
 #[tactic(auto, unfolding(crate::specs::Spellings::shl_to_xor))]
-fn shl_to_xor(word: &[u8]) -> Option<Shape>
-    ensures { result ≡ named shl_to_xor word.now }
+fn shl_to_xor(mnemonic: &[u8]) -> Option<Shape>
+    ensures { result ≡ named shl_to_xor mnemonic.now }
 {
     find(
         &[
@@ -416,6 +417,6 @@ fn shl_to_xor(word: &[u8]) -> Option<Shape>
             ("xorq", Op::Xor, 64),
             ("xorw", Op::Xor, 16),
         ],
-        word,
+        mnemonic,
     )
 }

@@ -1,4 +1,5 @@
-//! The laws of the instruction table.
+//! The laws of the instruction table: functions without code, whose contracts say what holds of every
+//! instruction of the table.
 ghost use Rattle.std.specs.Prelude.{◌≡◌, ◌≤◌, ◌<◌, ◌^◌, ℕ, List, length, Some, Ok};
 ghost use Rattle.std.specs.List.{AllByRecursion, count_by};
 ghost use Rattle.align_base.specs.declared.op.Op.{Op};
@@ -11,19 +12,19 @@ ghost use Rattle.insn_table.specs.Plain.{IsPlain};
 ghost use Rattle.insn_table.specs.Closed.{IsClosed};
 ghost use Rattle.insn_table.specs.Table.{shape_of, HasRegisters, IsTableInsn};
 
-/// A law: each instruction of the table has a word, which names its shape.
-#[tactic(auto, using(crate::proofs::TableInsns::words))]
-pub fn table_insns_have_words()
+/// A law: each instruction of the table has a mnemonic, which names its shape.
+#[tactic(auto, using(crate::proofs::TableInsns::mnemonics))]
+pub fn table_insns_have_mnemonics()
     ensures { (i : Insn) → IsTableInsn i
-        → (word : List ℕ) × (named general_rows word ≡ Some (shape_of i)) }
+        → (mnemonic : List ℕ) × (named general_rows mnemonic ≡ Some (shape_of i)) }
 {}
 
-/// A law: what `fits` makes of a shape that a word names is an instruction of the table, where its
+/// A law: what `fits` makes of a shape that a mnemonic names is an instruction of the table, where its
 /// registers and scales are ones that there are.
 #[tactic(auto, using(crate::proofs::TableInsns::fitted))]
 pub fn fitted_insns_are_of_the_table()
-    ensures { (word : List ℕ) (shape : Shape) (args : List Operand) (line : ℕ) (i : Insn)
-        → named general_rows word ≡ Some shape → fits_of shape args line ≡ Ok i
+    ensures { (mnemonic : List ℕ) (shape : Shape) (args : List Operand) (line : ℕ) (i : Insn)
+        → named general_rows mnemonic ≡ Some shape → fits_of shape args line ≡ Ok i
         → AllByRecursion HasRegisters i.args → IsTableInsn i }
 {}
 

@@ -1,151 +1,136 @@
--- What the conditions say after a comparison: which operand is below the other, as whole numbers and by the sign.
-use Rattle.std.proofs.Common.{◌≡◌, ℕ, zero, suc, ◌+◌, ◌-◌, ◌*◌, ◌/◌, ◌%◌, ◌^◌, ◌<◌, ◌≤◌, ◌==◌, Bool, true, false, Some, refl, sym, ◌∙◌, ap, subst, inl, inr, arith, min}
-use Rattle.std.specs.Prelude.{bit_and, bit_xor, nat_lt}
-use Rattle.std.proofs.lemmas.Bool.{cases_lt, cases_order, lt-ltb, le-ltb, eq-eqb, ne_eqb}
-use Rattle.std.proofs.lemmas.Nat.{pow-add, mod_below}
+-- What the flags and the conditions say after a sum and a difference of words: whether the signed result has a word,
+-- which operand is below the other, and whether the sum is negative.
+use Rattle.std.proofs.Common.{◌≡◌, ℕ, ◌+◌, ◌-◌, ◌*◌, ◌/◌, ◌%◌, ◌^◌, ◌<◌, ◌==◌, Bool, true, false, Some, refl, sym, ◌∙◌, ap, subst, inl, inr, arith}
+use Rattle.std.specs.Prelude.{ℤ, pos, ◌+ℤ◌, ◌-ℤ◌, ◌||◌, bit_and, bit_xor, int_le, int_lt, nat_le, nat_lt, not}
+use Rattle.std.specs.Option.{option_map}
+use Rattle.std.proofs.lemmas.Bool.{cases_order, eq-eqb, ne_eqb}
+use Rattle.std.proofs.lemmas.Int.{ints}
+use Rattle.std.proofs.lemmas.Nat.{pow-add, pow_pos, mod_below}
 use Rattle.std.proofs.lemmas.Nat.Bits.{bit_at_and, bit_at_xor}
-use Rattle.std.proofs.Math.Nat.{mod-eq_of_lt, div-eq_of_lt, div-eq_of_lt-le}
+use Rattle.std.proofs.Math.Nat.{mod-eq_of_lt}
 use Rattle.align_base.specs.declared.op.Cond.TheVariants as conds
 use Rattle.align_base.specs.declared.op.Flags.{Flags}
 use Rattle.align_base.specs.declared.op.Op.TheVariants as ops
-use Rattle.instruction_semantics.specs.Conditions.{cond_of}
+use Rattle.instruction_semantics.specs.Conditions.{cond_of, either}
 use Rattle.instruction_semantics.specs.FlagRules.{flags_after}
+use Rattle.instruction_semantics.specs.SignedNumbers.{has_word, signed_number}
 use Rattle.instruction_semantics.specs.Words.{bit, minus, plus, cut, signed_below}
-use Rattle.instruction_semantics.proofs.WordLaws.{once_around}
+use Rattle.instruction_semantics.proofs.ConditionLaws.{be_is_either, le_is_either, opposites_differ}
+use Rattle.instruction_semantics.proofs.SignedSums.{Half, Low, High, SignedSum, difference_less, difference_overflows, half_of, over, signed, signed_sum, sum_less, sum_overflows, turned, turned_order, turned_sum}
+use Rattle.instruction_semantics.proofs.WordLaws.{once_around, plus-minus}
 
-bit-test : (b : Bool) → (bit b == 1) ≡ b
+-- a Bool as a word of one bit, tested
+pub bit-test : (b : Bool) → (bit b == 1) ≡ b
 bit-test true = refl
 bit-test false = refl
 
--- the highest bit of a number below h + h
-top_low : (h a : ℕ) → a < h → a / h % 2 ≡ 0
-top_low h a l = rw (div-eq_of_lt l) refl
-
-top_high : (h a : ℕ) → h ≤ a → a < h + h → a / h % 2 ≡ 1
-top_high h a g l = let one : a / h ≡ 1 = div-eq_of_lt-le h (omega arith) (omega arith) in rw one refl
-
--- the sign and the overflow of a difference r, of the highest bits of a, b and r
-overflow_by_tops : (a b r k : ℕ) → cut (bit_and (bit_xor a b) (bit_xor a r)) k 1 ≡ min ((cut a k 1 + cut b k 1) % 2) ((cut a k 1 + cut r k 1) % 2)
-overflow_by_tops a b r k = simp (bit_at_and, bit_at_xor)
-
-less_by_tops : ℕ → ℕ → ℕ → Bool
-less_by_tops a b r = bit_xor (bit (r == 1)) (bit (min ((a + b) % 2) ((a + r) % 2) == 1)) == 1
-
--- where the operands' signs differ, the difference's sign says nothing
-signs_differ : (r : ℕ) → r < 2 → (less_by_tops 0 1 r ≡ false) × (less_by_tops 1 0 r ≡ true)
-unfolding less_by_tops
-signs_differ zero h = (refl, refl)
-signs_differ (suc zero) h = (refl, refl)
-signs_differ (suc (suc r)) h = absurd (omega arith)
-
-signs_agree : (less_by_tops 0 0 1 ≡ true) × (less_by_tops 1 1 1 ≡ true) × (less_by_tops 0 0 0 ≡ false) × (less_by_tops 1 1 0 ≡ false)
-unfolding less_by_tops
-signs_agree = (refl, refl, refl, refl)
-
-turned_low : (h a : ℕ) → a < h → (a + h) % (h + h) ≡ a + h
-turned_low h a l = mod-eq_of_lt (omega arith)
-
-turned_high : (h a : ℕ) → h ≤ a → a < h + h → (a + h) % (h + h) ≡ a - h
-turned_high h a g l = once_around (h + h) (a - h) (a + h) (omega arith) (omega arith)
-
-borrowed : (h a b : ℕ) → a < b → b < h + h → (a + (h + h - b)) % (h + h) ≡ a + (h + h - b)
-borrowed h a b l word = mod-eq_of_lt (omega arith)
-
-unborrowed : (h a b : ℕ) → b ≤ a → a < h + h → (a + (h + h - b)) % (h + h) ≡ a - b
-unborrowed h a b l word = once_around (h + h) (a - b) (a + (h + h - b)) (omega arith) (omega arith)
-
--- sign and overflow of a difference tell the order by the sign
-Tells : ℕ → ℕ → ℕ → Type 0
-Tells h a b =
-    less_by_tops (a / h % 2) (b / h % 2) ((a + (h + h - b)) % (h + h) / h % 2) ≡ nat_lt ((a + h) % (h + h)) ((b + h) % (h + h))
-
-both_low : (h a b : ℕ) → a < h → b < h → Tells h a b
-unfolding Tells
-both_low h a b la lb = elim (cases_lt a b) [
-  | inl l ↦ rw (
-    top_low h a la,
-    top_low h b lb,
-    borrowed h a b l (omega arith),
-    top_high h (a + (h + h - b)) (omega arith) (omega arith),
-    turned_low h a la,
-    turned_low h b lb,
-    lt-ltb (a + h) (b + h) (omega arith),
-  ) signs_agree.0
-  | inr g ↦ rw (
-    top_low h a la,
-    top_low h b lb,
-    unborrowed h a b g (omega arith),
-    top_low h (a - b) (omega arith),
-    turned_low h a la,
-    turned_low h b lb,
-    le-ltb (a + h) (b + h) (omega arith),
-  ) signs_agree.2
-]
-
-both_high : (h a b : ℕ) → h ≤ a → a < h + h → h ≤ b → b < h + h → Tells h a b
-unfolding Tells
-both_high h a b ga la gb lb = elim (cases_lt a b) [
-  | inl l ↦ rw (
-    top_high h a ga la,
-    top_high h b gb lb,
-    borrowed h a b l lb,
-    top_high h (a + (h + h - b)) (omega arith) (omega arith),
-    turned_high h a ga la,
-    turned_high h b gb lb,
-    lt-ltb (a - h) (b - h) (omega arith),
-  ) signs_agree.1
-  | inr g ↦ rw (
-    top_high h a ga la,
-    top_high h b gb lb,
-    unborrowed h a b g la,
-    top_low h (a - b) (omega arith),
-    turned_high h a ga la,
-    turned_high h b gb lb,
-    le-ltb (a - h) (b - h) (omega arith),
-  ) signs_agree.3
-]
-
-low_and_high : (h a b : ℕ) → a < h → h ≤ b → b < h + h → Tells h a b
-unfolding Tells
-low_and_high h a b la gb lb =
-    rw (top_low h a la, top_high h b gb lb, turned_low h a la, turned_high h b gb lb, le-ltb (a + h) (b - h) (omega arith))
-    (signs_differ ((a + (h + h - b)) % (h + h) / h % 2) (mod_below _ 2 (omega arith))).0
-
-high_and_low : (h a b : ℕ) → h ≤ a → a < h + h → b < h → Tells h a b
-unfolding Tells
-high_and_low h a b ga la lb =
-    rw (top_high h a ga la, top_low h b lb, turned_high h a ga la, turned_low h b lb, lt-ltb (a - h) (b + h) (omega arith))
-    (signs_differ ((a + (h + h - b)) % (h + h) / h % 2) (mod_below _ 2 (omega arith))).1
-
-tells : (h a b : ℕ) → a < h + h → b < h + h → Tells h a b
-tells h a b la lb = elim (cases_lt a h) [
-  | inl low ↦ elim (cases_lt b h) [ inl low_too ↦ both_low h a b low low_too | inr high ↦ low_and_high h a b low high lb ]
-  | inr high ↦ elim (cases_lt b h) [ inl low ↦ high_and_low h a b high la low | inr high_too ↦ both_high h a b high la high_too lb ]
-]
-
-halves : (w : ℕ) → 0 < w → 2 ^ (w - 1) + 2 ^ (w - 1) ≡ 2 ^ w
+pub halves : (w : ℕ) → 0 < w → 2 ^ (w - 1) + 2 ^ (w - 1) ≡ 2 ^ w
 halves w some =
     let whole : w - 1 + 1 ≡ w = omega arith in
     let product : 2 ^ w ≡ 2 ^ (w - 1) * 2 = rw whole at (pow-add 2 (w - 1) 1) in
     omega arith
 
-less_of_words : (w a b : ℕ) → 0 < w → a < 2 ^ w → b < 2 ^ w
-    → less_by_tops (cut a (w - 1) 1) (cut b (w - 1) 1) (cut (minus w a b) (w - 1) 1) ≡ nat_lt (plus w a (2 ^ (w - 1))) (plus w b (2 ^ (w - 1)))
-unfolding Tells
-less_of_words w a b some la lb =
+pub signed_number-is : (w a : ℕ) → 0 < w → signed_number w a ≡ signed (2 ^ (w - 1)) a
+signed_number-is w a some = rw (halves w some) refl
+
+-- the overflow of a sum r, by the highest bits of a, b and r
+sum_overflow_by_tops : (a b r k : ℕ) → cut (bit_and (bit_xor a r) (bit_xor b r)) k 1 ≡ over (cut a k 1) (cut b k 1) (cut r k 1)
+unfolding over
+sum_overflow_by_tops a b r k = simp (bit_at_and, bit_at_xor)
+
+-- the overflow of a difference r is that of the sum r + b, whose result is a
+difference_overflow_by_tops : (a b r k : ℕ) → cut (bit_and (bit_xor a b) (bit_xor a r)) k 1 ≡ over (cut r k 1) (cut b k 1) (cut a k 1)
+unfolding over
+difference_overflow_by_tops a b r k = simp (bit_at_and, bit_at_xor) (omega arith)
+
+-- the sum of two words, at the highest bit
+sum_of_words : (w a b : ℕ) → 0 < w → a < 2 ^ w → b < 2 ^ w
+    → SignedSum (2 ^ (w - 1)) (cut a (w - 1) 1) (cut (plus w a b) (w - 1) 1) (over (cut a (w - 1) 1) (cut b (w - 1) 1) (cut (plus w a b) (w - 1) 1))
+    (signed (2 ^ (w - 1)) a) (signed (2 ^ (w - 1)) b) (signed (2 ^ (w - 1)) (plus w a b))
+sum_of_words w a b some la lb =
     let half : 2 ^ (w - 1) + 2 ^ (w - 1) ≡ 2 ^ w = halves w some in
     let h : ℕ = 2 ^ (w - 1) in
-    subst (λ (p : ℕ). less_by_tops (a / h % 2) (b / h % 2) ((a + (p - b)) % p / h % 2) ≡ nat_lt ((a + h) % p) ((b + h) % p)) half
-    (tells h a b (omega arith) (omega arith))
+    subst (λ (p : ℕ). SignedSum h (a / h % 2) ((a + b) % p / h % 2) (over (a / h % 2) (b / h % 2) ((a + b) % p / h % 2)) (signed h a) (signed h b) (signed h ((a + b) % p))) half
+    (signed_sum h a b (omega arith) (omega arith))
 
--- after a comparison `l` holds where the left operand is below the right one by the sign
+-- the difference of two words: with the right operand it makes the left one
+difference_of_words : (w a b : ℕ) → 0 < w → a < 2 ^ w → b < 2 ^ w
+    → SignedSum (2 ^ (w - 1)) (cut (minus w a b) (w - 1) 1) (cut a (w - 1) 1) (over (cut (minus w a b) (w - 1) 1) (cut b (w - 1) 1) (cut a (w - 1) 1))
+    (signed (2 ^ (w - 1)) (minus w a b)) (signed (2 ^ (w - 1)) b) (signed (2 ^ (w - 1)) a)
+difference_of_words w a b some la lb =
+    rw (plus-minus w a b la lb) at (sum_of_words w (minus w a b) b some (mod_below (a + (2 ^ w - b)) (2 ^ w) (pow_pos w)) lb)
+
+half_of_word : (w a : ℕ) → 0 < w → a < 2 ^ w → Half (2 ^ (w - 1)) a (cut a (w - 1) 1) (signed (2 ^ (w - 1)) a)
+half_of_word w a some word =
+    let half : 2 ^ (w - 1) + 2 ^ (w - 1) ≡ 2 ^ w = halves w some in
+    half_of (2 ^ (w - 1)) a (omega arith)
+
+below_two_halves : (w a : ℕ) → 0 < w → a < 2 ^ w → a < 2 ^ (w - 1) + 2 ^ (w - 1)
+below_two_halves w a some word = rw (halves w some) word
+
+-- a sum overflows where the signed sum has no word
+pub overflow_after_add : (w a b : ℕ) (before : Flags) → 0 < w → a < 2 ^ w → b < 2 ^ w
+    → (flags_after ops.Add w a b before).of ≡ Some (not (has_word w (signed_number w a +ℤ signed_number w b)))
+unfolding flags_after
+overflow_after_add w a b before some la lb =
+    let r : ℕ = plus w a b in
+    let word : r < 2 ^ w = mod_below (a + b) (2 ^ w) (pow_pos w) in
+    rw (sum_overflow_by_tops a b (plus w a b) (w - 1), signed_number-is w a some, signed_number-is w b some)
+    (ap Some (sum_overflows _ _ _ _ _ _ _ _ (below_two_halves w r some word) (half_of_word w r some word) (sum_of_words w a b some la lb)))
+
+-- and a difference where the signed difference has none
+pub overflow_after_sub : (w a b : ℕ) (before : Flags) → 0 < w → a < 2 ^ w → b < 2 ^ w
+    → (flags_after ops.Sub w a b before).of ≡ Some (not (has_word w (signed_number w a -ℤ signed_number w b)))
+unfolding flags_after
+overflow_after_sub w a b before some la lb =
+    let r : ℕ = minus w a b in
+    let word : r < 2 ^ w = mod_below (a + (2 ^ w - b)) (2 ^ w) (pow_pos w) in
+    rw (difference_overflow_by_tops a b (minus w a b) (w - 1), signed_number-is w a some, signed_number-is w b some)
+    (ap Some (difference_overflows _ _ _ _ _ _ _ _ (below_two_halves w r some word) (half_of_word w r some word) (difference_of_words w a b some la lb)))
+
+-- after a comparison `l` holds where the left operand is below the right one as a signed number
+pub signed_less_after_cmp : (w a b : ℕ) (before : Flags) → 0 < w → a < 2 ^ w → b < 2 ^ w
+    → cond_of conds.L (flags_after ops.Cmp w a b before) ≡ Some (int_lt (signed_number w a) (signed_number w b))
+unfolding flags_after
+signed_less_after_cmp w a b before some la lb =
+    let r : ℕ = minus w a b in
+    let word : r < 2 ^ w = mod_below (a + (2 ^ w - b)) (2 ^ w) (pow_pos w) in
+    rw (difference_overflow_by_tops a b (minus w a b) (w - 1), signed_number-is w a some, signed_number-is w b some)
+    (ap Some (difference_less _ _ _ _ _ _ _ _ (below_two_halves w r some word) (half_of_word w r some word) (difference_of_words w a b some la lb)))
+
+-- after a sum it holds where the signed sum is negative
+pub signed_less_after_add : (w a b : ℕ) (before : Flags) → 0 < w → a < 2 ^ w → b < 2 ^ w
+    → cond_of conds.L (flags_after ops.Add w a b before) ≡ Some (int_lt (signed_number w a +ℤ signed_number w b) (pos 0))
+unfolding flags_after
+signed_less_after_add w a b before some la lb =
+    let r : ℕ = plus w a b in
+    let word : r < 2 ^ w = mod_below (a + b) (2 ^ w) (pow_pos w) in
+    rw (sum_overflow_by_tops a b (plus w a b) (w - 1), signed_number-is w a some, signed_number-is w b some)
+    (ap Some (sum_less _ _ _ _ _ _ _ _ (below_two_halves w r some word) (half_of_word w r some word) (sum_of_words w a b some la lb)))
+
+-- a word with its highest bit turned is its signed number and 2^(w - 1)
+turned_word : (w a : ℕ) → 0 < w → a < 2 ^ w → pos (plus w a (2 ^ (w - 1))) ≡ signed_number w a +ℤ pos (2 ^ (w - 1))
+turned_word w a some word =
+    rw (signed_number-is w a some, ← halves w some) (turned (2 ^ (w - 1)) a (below_two_halves w a some word))
+
+-- so words are below by the sign exactly where their signed numbers are below
+pub signed_below-is : (w a b : ℕ) → 0 < w → a < 2 ^ w → b < 2 ^ w → signed_below w a b ≡ bit (int_lt (signed_number w a) (signed_number w b))
+signed_below-is w a b some la lb =
+    ap bit (turned_order _ _ (2 ^ (w - 1)) (signed_number w a) (signed_number w b) (turned_word w a some la) (turned_word w b some lb))
+
+-- the same two facts, with the words turned
 pub less_after_cmp : (w a b : ℕ) (before : Flags) → 0 < w → a < 2 ^ w → b < 2 ^ w
     → cond_of conds.L (flags_after ops.Cmp w a b before) ≡ Some (signed_below w a b == 1)
-unfolding flags_after less_by_tops
 less_after_cmp w a b before some la lb =
-    rw (overflow_by_tops a b (minus w a b) (w - 1)) (ap Some (less_of_words w a b some la lb ∙ sym (bit-test _)))
+    signed_less_after_cmp w a b before some la lb ∙ ap Some (sym (rw (signed_below-is w a b some la lb) (bit-test _)))
 
--- and `b` where it is below it as a whole number
+pub less_after_add : (w a b : ℕ) (before : Flags) → 0 < w → a < 2 ^ w → b < 2 ^ w
+    → cond_of conds.L (flags_after ops.Add w a b before) ≡ Some (nat_lt (plus w a (2 ^ (w - 1)) + plus w b (2 ^ (w - 1))) (2 ^ w))
+less_after_add w a b before some la lb =
+    signed_less_after_add w a b before some la lb
+    ∙ ap Some (sym (turned_sum _ _ (2 ^ (w - 1)) (signed_number w a) (signed_number w b) (turned_word w a some la) (turned_word w b some lb)) ∙ ap (nat_lt _) (halves w some))
+
+-- `b` holds where the left operand is below the right one as a whole number
 pub below_after_cmp : (w a b : ℕ) (before : Flags) → cond_of conds.B (flags_after ops.Cmp w a b before) ≡ Some (nat_lt a b)
 unfolding flags_after
 below_after_cmp w a b before = ap Some (bit-test _ ∙ bit-test _)
@@ -165,110 +150,83 @@ pub equal_after_cmp : (w a b : ℕ) (before : Flags) → a < 2 ^ w → b < 2 ^ w
 unfolding flags_after
 equal_after_cmp w a b before la lb = ap Some (bit-test _ ∙ bit-test _ ∙ difference_zero (2 ^ w) a b la lb)
 
--- The same for a sum: sign and overflow tell the sign of the sum of the signed numbers, which is negative where the
--- operands with their highest bits turned have a sum below 2^w.
-sum_by_tops : ℕ → ℕ → ℕ → Bool
-sum_by_tops a b r = bit_xor (bit (r == 1)) (bit (min ((a + r) % 2) ((b + r) % 2) == 1)) == 1
+-- The other conditions after a comparison, by what they have to do with these three.
+not_below : (a b : ℕ) → not (nat_lt a b) ≡ nat_le b a
+not_below a b = grind arith
 
-sum_overflow_by_tops : (a b r k : ℕ) → cut (bit_and (bit_xor a r) (bit_xor b r)) k 1 ≡ min ((cut a k 1 + cut r k 1) % 2) ((cut b k 1 + cut r k 1) % 2)
-sum_overflow_by_tops a b r k = simp (bit_at_and, bit_at_xor)
+not_above : (a b : ℕ) → not (nat_le a b) ≡ nat_lt b a
+not_above a b = grind arith
 
--- where the operands' signs agree, the sum's sign says nothing
-operands_agree : (r : ℕ) → r < 2 → (sum_by_tops 0 0 r ≡ false) × (sum_by_tops 1 1 r ≡ true)
-unfolding sum_by_tops
-operands_agree zero h = (refl, refl)
-operands_agree (suc zero) h = (refl, refl)
-operands_agree (suc (suc r)) h = absurd (omega arith)
+below_or_equal : (a b : ℕ) → (nat_lt a b || (a == b)) ≡ nat_le a b
+below_or_equal a b = grind arith
 
-operands_differ : (sum_by_tops 0 1 1 ≡ true) × (sum_by_tops 1 0 1 ≡ true) × (sum_by_tops 0 1 0 ≡ false) × (sum_by_tops 1 0 0 ≡ false)
-unfolding sum_by_tops
-operands_differ = (refl, refl, refl, refl)
+not_less : (x y : ℤ) → not (int_lt x y) ≡ int_le y x
+not_less x y = grind (arith, ints)
 
-SumTells : ℕ → ℕ → ℕ → Type 0
-SumTells h a b =
-    sum_by_tops (a / h % 2) (b / h % 2) ((a + b) % (h + h) / h % 2) ≡ nat_lt ((a + h) % (h + h) + (b + h) % (h + h)) (h + h)
+not_greater : (x y : ℤ) → not (int_le x y) ≡ int_lt y x
+not_greater x y = grind (arith, ints)
 
-sum_low_low : (h a b : ℕ) → a < h → b < h → SumTells h a b
-unfolding SumTells
-sum_low_low h a b la lb =
-    rw (top_low h a la, top_low h b lb, turned_low h a la, turned_low h b lb, le-ltb (a + h + (b + h)) (h + h) (omega arith))
-    (operands_agree ((a + b) % (h + h) / h % 2) (mod_below _ 2 (omega arith))).0
+equal_or_less : (h a b ta tb : ℕ) (x y : ℤ) → a < h + h → b < h + h → Half h a ta x → Half h b tb y → ((a == b) || int_lt x y) ≡ int_le x y
+equal_or_less h a b ta tb x y la lb (Low d e f) (Low i j k) = grind (arith, ints)
+equal_or_less h a b ta tb x y la lb (Low d e f) (High i j k) = grind (arith, ints)
+equal_or_less h a b ta tb x y la lb (High d e f) (Low i j k) = grind (arith, ints)
+equal_or_less h a b ta tb x y la lb (High d e f) (High i j k) = grind (arith, ints)
 
-sum_high_high : (h a b : ℕ) → h ≤ a → a < h + h → h ≤ b → b < h + h → SumTells h a b
-unfolding SumTells
-sum_high_high h a b ga la gb lb =
-    rw (top_high h a ga la, top_high h b gb lb, turned_high h a ga la, turned_high h b gb lb, lt-ltb (a - h + (b - h)) (h + h) (omega arith))
-    (operands_agree ((a + b) % (h + h) / h % 2) (mod_below _ 2 (omega arith))).1
+equal_or_less_words : (w a b : ℕ) → 0 < w → a < 2 ^ w → b < 2 ^ w
+    → ((a == b) || int_lt (signed_number w a) (signed_number w b)) ≡ int_le (signed_number w a) (signed_number w b)
+equal_or_less_words w a b some la lb =
+    rw (signed_number-is w a some, signed_number-is w b some)
+    (equal_or_less (2 ^ (w - 1)) a b _ _ _ _ (below_two_halves w a some la) (below_two_halves w b some lb) (half_of_word w a some la) (half_of_word w b some lb))
 
-sum_low_high : (h a b : ℕ) → a < h → h ≤ b → b < h + h → SumTells h a b
-unfolding SumTells
-sum_low_high h a b la gb lb = elim (cases_lt (a + b) (h + h)) [
-  | inl l ↦
-      let sum : (a + b) % (h + h) ≡ a + b = mod-eq_of_lt l in
-      rw (
-        top_low h a la,
-        top_high h b gb lb,
-        sum,
-        top_high h (a + b) (omega arith) l,
-        turned_low h a la,
-        turned_high h b gb lb,
-        lt-ltb (a + h + (b - h)) (h + h) (omega arith),
-      ) operands_differ.0
-  | inr g ↦ rw (
-    top_low h a la,
-    top_high h b gb lb,
-    once_around (h + h) (a + b - (h + h)) (a + b) (omega arith) (omega arith),
-    top_low h (a + b - (h + h)) (omega arith),
-    turned_low h a la,
-    turned_high h b gb lb,
-    le-ltb (a + h + (b - h)) (h + h) (omega arith),
-  ) operands_differ.2
-]
+pub not_equal_after_cmp : (w a b : ℕ) (before : Flags) → a < 2 ^ w → b < 2 ^ w
+    → cond_of conds.Ne (flags_after ops.Cmp w a b before) ≡ Some (not (a == b))
+not_equal_after_cmp w a b before la lb = opposites_differ conds.E (flags_after ops.Cmp w a b before) ∙ ap (option_map not) (equal_after_cmp w a b before la lb)
 
-sum_high_low : (h a b : ℕ) → h ≤ a → a < h + h → b < h → SumTells h a b
-unfolding SumTells
-sum_high_low h a b ga la lb = elim (cases_lt (a + b) (h + h)) [
-  | inl l ↦
-      let sum : (a + b) % (h + h) ≡ a + b = mod-eq_of_lt l in
-      rw (
-        top_high h a ga la,
-        top_low h b lb,
-        sum,
-        top_high h (a + b) (omega arith) l,
-        turned_high h a ga la,
-        turned_low h b lb,
-        lt-ltb (a - h + (b + h)) (h + h) (omega arith),
-      ) operands_differ.1
-  | inr g ↦ rw (
-    top_high h a ga la,
-    top_low h b lb,
-    once_around (h + h) (a + b - (h + h)) (a + b) (omega arith) (omega arith),
-    top_low h (a + b - (h + h)) (omega arith),
-    turned_high h a ga la,
-    turned_low h b lb,
-    le-ltb (a - h + (b + h)) (h + h) (omega arith),
-  ) operands_differ.3
-]
+pub not_below_after_cmp : (w a b : ℕ) (before : Flags) → cond_of conds.Ae (flags_after ops.Cmp w a b before) ≡ Some (nat_le b a)
+not_below_after_cmp w a b before = opposites_differ conds.B (flags_after ops.Cmp w a b before) ∙ ap (option_map not) (below_after_cmp w a b before) ∙ ap Some (not_below a b)
 
-sum_tells : (h a b : ℕ) → a < h + h → b < h + h → SumTells h a b
-sum_tells h a b la lb = elim (cases_lt a h) [
-  | inl low ↦ elim (cases_lt b h) [ inl low_too ↦ sum_low_low h a b low low_too | inr high ↦ sum_low_high h a b low high lb ]
-  | inr high ↦ elim (cases_lt b h) [ inl low ↦ sum_high_low h a b high la low | inr high_too ↦ sum_high_high h a b high la high_too lb ]
-]
+pub below_or_equal_after_cmp : (w a b : ℕ) (before : Flags) → a < 2 ^ w → b < 2 ^ w
+    → cond_of conds.Be (flags_after ops.Cmp w a b before) ≡ Some (nat_le a b)
+below_or_equal_after_cmp w a b before la lb =
+    be_is_either (flags_after ops.Cmp w a b before) ∙ (λ i. either (below_after_cmp w a b before i) (equal_after_cmp w a b before la lb i)) ∙ ap Some (below_or_equal a b)
 
-sum_of_words : (w a b : ℕ) → 0 < w → a < 2 ^ w → b < 2 ^ w
-    → sum_by_tops (cut a (w - 1) 1) (cut b (w - 1) 1) (cut (plus w a b) (w - 1) 1) ≡ nat_lt (plus w a (2 ^ (w - 1)) + plus w b (2 ^ (w - 1))) (2 ^ w)
-unfolding SumTells
-sum_of_words w a b some la lb =
-    let half : 2 ^ (w - 1) + 2 ^ (w - 1) ≡ 2 ^ w = halves w some in
-    let h : ℕ = 2 ^ (w - 1) in
-    subst (λ (p : ℕ). sum_by_tops (a / h % 2) (b / h % 2) ((a + b) % p / h % 2) ≡ nat_lt ((a + h) % p + (b + h) % p) p) half
-    (sum_tells h a b (omega arith) (omega arith))
+pub above_after_cmp : (w a b : ℕ) (before : Flags) → a < 2 ^ w → b < 2 ^ w
+    → cond_of conds.A (flags_after ops.Cmp w a b before) ≡ Some (nat_lt b a)
+above_after_cmp w a b before la lb =
+    opposites_differ conds.Be (flags_after ops.Cmp w a b before) ∙ ap (option_map not) (below_or_equal_after_cmp w a b before la lb) ∙ ap Some (not_above a b)
 
-pub less_after_add : (w a b : ℕ) (before : Flags) → 0 < w → a < 2 ^ w → b < 2 ^ w
-    → cond_of conds.L (flags_after ops.Add w a b before) ≡ Some (nat_lt (plus w a (2 ^ (w - 1)) + plus w b (2 ^ (w - 1))) (2 ^ w))
-unfolding flags_after sum_by_tops
-less_after_add w a b before some la lb =
-    rw (sum_overflow_by_tops a b (plus w a b) (w - 1)) (ap Some (sum_of_words w a b some la lb))
+pub not_less_after_cmp : (w a b : ℕ) (before : Flags) → 0 < w → a < 2 ^ w → b < 2 ^ w
+    → cond_of conds.Ge (flags_after ops.Cmp w a b before) ≡ Some (int_le (signed_number w b) (signed_number w a))
+not_less_after_cmp w a b before some la lb =
+    opposites_differ conds.L (flags_after ops.Cmp w a b before) ∙ ap (option_map not) (signed_less_after_cmp w a b before some la lb) ∙ ap Some (not_less (signed_number w a) (signed_number w b))
 
-pub ruleset comparisons = (less_after_cmp, below_after_cmp, equal_after_cmp, less_after_add)
+pub less_or_equal_after_cmp : (w a b : ℕ) (before : Flags) → 0 < w → a < 2 ^ w → b < 2 ^ w
+    → cond_of conds.Le (flags_after ops.Cmp w a b before) ≡ Some (int_le (signed_number w a) (signed_number w b))
+less_or_equal_after_cmp w a b before some la lb =
+    le_is_either (flags_after ops.Cmp w a b before)
+    ∙ (λ i. either (equal_after_cmp w a b before la lb i) (signed_less_after_cmp w a b before some la lb i))
+    ∙ ap Some (equal_or_less_words w a b some la lb)
+
+pub greater_after_cmp : (w a b : ℕ) (before : Flags) → 0 < w → a < 2 ^ w → b < 2 ^ w
+    → cond_of conds.G (flags_after ops.Cmp w a b before) ≡ Some (int_lt (signed_number w b) (signed_number w a))
+greater_after_cmp w a b before some la lb =
+    opposites_differ conds.Le (flags_after ops.Cmp w a b before) ∙ ap (option_map not) (less_or_equal_after_cmp w a b before some la lb) ∙ ap Some (not_greater (signed_number w a) (signed_number w b))
+
+pub ruleset comparisons = (
+  less_after_cmp,
+  below_after_cmp,
+  equal_after_cmp,
+  less_after_add,
+  signed_less_after_cmp,
+  signed_less_after_add,
+  signed_below-is,
+  not_equal_after_cmp,
+  not_below_after_cmp,
+  below_or_equal_after_cmp,
+  above_after_cmp,
+  not_less_after_cmp,
+  less_or_equal_after_cmp,
+  greater_after_cmp,
+)
+
+pub ruleset overflows = (overflow_after_add, overflow_after_sub)

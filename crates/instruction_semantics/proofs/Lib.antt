@@ -1,2 +1,6 @@
 pub mod Comparisons
+pub mod ConditionLaws
+pub mod FlagLaws
+pub mod SignedSums
+pub mod SignedWords
 pub mod WordLaws

@@ -7,7 +7,7 @@ use Rattle.std.proofs.Math.Pow.{pow_mono}
 use Rattle.align_base.specs.declared.op.Op.{Op}
 use Rattle.align_base.specs.declared.op.Op.TheVariants as ops
 use Rattle.instruction_semantics.specs.Rows.{Computes, computed}
-use Rattle.instruction_semantics.specs.Words.{plus, minus, complement, cut, joined, top, extended, shifted_left, shifted_right, equal, below}
+use Rattle.instruction_semantics.specs.Words.{plus, minus, complement, cut, concatenation, top, sign_extension, left_shift, right_shift, equal, below}
 
 -- a number below the modulus, with the modulus added
 pub once_around : (p a n : ℕ) → a < p → n ≡ a + p → n % p ≡ a
@@ -27,11 +27,11 @@ minus_self w a word = once_around (2 ^ w) 0 (a + (2 ^ w - a)) (pow_pos w) (omega
 pub complement-complement : (w a : ℕ) → a < 2 ^ w → complement w (complement w a) ≡ a
 complement-complement w a word = omega arith
 
-pub cut_high-joined : (m n high low : ℕ) → high < 2 ^ m → low < 2 ^ n → cut (joined n high low) n m ≡ high
-cut_high-joined m n high low h l = rw (shr_high high n low l) (mod-eq_of_lt h)
+pub cut_high-concatenation : (m n high low : ℕ) → high < 2 ^ m → low < 2 ^ n → cut (concatenation n high low) n m ≡ high
+cut_high-concatenation m n high low h l = rw (shr_high high n low l) (mod-eq_of_lt h)
 
-pub cut_low-joined : (n high low : ℕ) → low < 2 ^ n → cut (joined n high low) 0 n ≡ low
-cut_low-joined n high low l = rw div-one (mod_low high n low l)
+pub cut_low-concatenation : (n high low : ℕ) → low < 2 ^ n → cut (concatenation n high low) 0 n ≡ low
+cut_low-concatenation n high low l = rw div-one (mod_low high n low l)
 
 -- 2^n less 2^m is a multiple of 2^m
 low_of_copies : (t p d a : ℕ) → a < p → (t * (p * suc d - p) + a) % p ≡ a
@@ -40,8 +40,8 @@ low_of_copies t p d a h =
     let turned : t * (p * d) ≡ p * (t * d) = omega arith in
     rw (rest, turned, mul-add-mod_self_left p (t * d) a) (mod-eq_of_lt h)
 
-pub mod-extended : (m n a : ℕ) → m ≤ n → a < 2 ^ m → extended m n a % 2 ^ m ≡ a
-mod-extended m n a order word =
+pub mod-sign_extension : (m n a : ℕ) → m ≤ n → a < 2 ^ m → sign_extension m n a % 2 ^ m ≡ a
+mod-sign_extension m n a order word =
     let one : 0 < 2 ^ (n - m) = pow_pos (n - m) in
     let d : ℕ = 2 ^ (n - m) - 1 in
     let up : suc d ≡ 2 ^ (n - m) = omega arith in
@@ -57,13 +57,13 @@ extended_by (suc (suc t)) p q a h order word = absurd (omega arith)
 pub power_grows : (m n : ℕ) → m ≤ n → 2 ^ m ≤ 2 ^ n
 power_grows m n h = pow_mono h
 
-pub extended_below : (m n a : ℕ) → m ≤ n → a < 2 ^ m → extended m n a < 2 ^ n
-extended_below m n a order word =
+pub sign_extension_below : (m n a : ℕ) → m ≤ n → a < 2 ^ m → sign_extension m n a < 2 ^ n
+sign_extension_below m n a order word =
     extended_by (top m a) (2 ^ n) (2 ^ m) a (mod_below (a / 2 ^ (m - 1)) 2 (omega arith)) (power_grows m n order) word
 
 -- a shift to the left and back to the right drops the high bits
-pub shifted_right-shifted_left : (w k a : ℕ) → k ≤ w → shifted_right (shifted_left w a k) k ≡ a % 2 ^ (w - k)
-shifted_right-shifted_left w k a h =
+pub right_shift-left_shift : (w k a : ℕ) → k ≤ w → right_shift (left_shift w a k) k ≡ a % 2 ^ (w - k)
+right_shift-left_shift w k a h =
     let whole : w - k + k ≡ w = omega arith in
     rw whole at (field_of (a * 2 ^ k) (w - k) k) ∙ ap (λ (n : ℕ). n % 2 ^ (w - k)) (shl-shr a k)
 
@@ -103,12 +103,12 @@ computed_below ops.Shr w a b h = omega (arith, shr_le a b, h.1)
 computed_below ops.Sar w a b h =
     let whole : w - b + b ≡ w = omega arith in
     let high : a / 2 ^ b < 2 ^ (w - b) = shr_below a (w - b) b (rw whole h.1) in
-    extended_below (w - b) w (a / 2 ^ b) (omega arith) high
+    sign_extension_below (w - b) w (a / 2 ^ b) (omega arith) high
 computed_below ops.Imul w a b h = mod_below (a * b) (2 ^ w) (pow_pos w)
 computed_below ops.Lea w a b h = mod_below (b / 2 ^ 0) (2 ^ w) (pow_pos w)
 computed_below (ops.Movzx m) w a b h = omega (arith, power_grows m w (omega arith), h.3)
-computed_below (ops.Movsx m) w a b h = extended_below m w b (omega arith) h.3
-computed_below ops.Cltq w a b h = subst (λ (n : ℕ). extended 32 64 b < 2 ^ n) (sym h.0) (extended_below 32 64 b (omega arith) h.1)
+computed_below (ops.Movsx m) w a b h = sign_extension_below m w b (omega arith) h.3
+computed_below ops.Cltq w a b h = subst (λ (n : ℕ). sign_extension 32 64 b < 2 ^ n) (sym h.0) (sign_extension_below 32 64 b (omega arith) h.1)
 computed_below _ w a b h = absurd h
 
-pub ruleset laws = (minus-plus, plus-minus, minus_self, complement-complement, cut_high-joined, cut_low-joined, mod-extended, extended_below, shifted_right-shifted_left, one_order, below-plus, computed_below)
+pub ruleset laws = (minus-plus, plus-minus, minus_self, complement-complement, cut_high-concatenation, cut_low-concatenation, mod-sign_extension, sign_extension_below, right_shift-left_shift, one_order, below-plus, computed_below)

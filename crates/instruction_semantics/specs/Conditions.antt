@@ -1,6 +1,6 @@
 -- Conditions: which flags each reads, and its value as an expression of them. Leaf 0 is the carry flag, 1 parity,
 -- 2 zero, 3 sign and 4 overflow.
-use Rattle.std.specs.Prelude.{ℕ, zero, suc, ◌==◌, Bool, false, List, [], ◌∷◌, Option, Some, None, is_some, unwrap_or, if◌then◌else◌}
+use Rattle.std.specs.Prelude.{ℕ, zero, suc, ◌==◌, Bool, false, List, [], ◌∷◌, Option, Some, None, ◌||◌, is_some, unwrap_or, if◌then◌else◌}
 use Rattle.std.specs.List.{list_all}
 use Rattle.align_base.specs.declared.op.Cond.{Cond}
 use Rattle.align_base.specs.declared.op.Cond.TheVariants as conds
@@ -63,3 +63,27 @@ flag_word f i = bit (unwrap_or (flag_at f i) false)
 -- whether the condition holds, where each flag that it reads is set
 abbrev pub cond_of : Cond → Flags → Option Bool
 cond_of c f = if list_all (λ i. is_some (flag_at f i)) (cond_reads c) then Some (value (flag_word f) (cond_expr c) == 1) else None
+
+-- the condition that holds where this one does not
+abbrev pub opposite : Cond → Cond
+opposite conds.E = conds.Ne
+opposite conds.Ne = conds.E
+opposite conds.B = conds.Ae
+opposite conds.Ae = conds.B
+opposite conds.Be = conds.A
+opposite conds.A = conds.Be
+opposite conds.L = conds.Ge
+opposite conds.Ge = conds.L
+opposite conds.Le = conds.G
+opposite conds.G = conds.Le
+opposite conds.S = conds.Ns
+opposite conds.Ns = conds.S
+opposite conds.O = conds.No
+opposite conds.No = conds.O
+opposite conds.P = conds.Np
+opposite conds.Np = conds.P
+
+-- whether one of two conditions holds, where both have a value
+abbrev pub either : Option Bool → Option Bool → Option Bool
+either (Some x) (Some y) = Some (x || y)
+either _ _ = None

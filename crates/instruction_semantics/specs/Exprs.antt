@@ -1,6 +1,6 @@
 -- Expressions of the operators on words over numbered leaves, and their values. The value of an instruction's row
 -- is the value of its expression, for the emulator as for what is proved of all inputs.
-use Rattle.std.specs.Prelude.{ℕ, bit_and, bit_or, bit_xor}
+use Rattle.std.specs.Prelude.{ℕ, List, [], ◌∷◌, ◌++◌, bit_and, bit_or, bit_xor}
 use Rattle.instruction_semantics.specs.Words as words
 
 -- the operators of two arguments of one width; the last three answer one bit
@@ -31,30 +31,42 @@ pub data Expr : Type 0 where
   Extended : ℕ → ℕ → Expr → Expr  -- from m bits to n by the sign
   Choice : Expr → Expr → Expr → Expr  -- the second where the first is 1, else the third
 
-abbrev pub operated : Operator → ℕ → ℕ → ℕ → ℕ
-operated Plus w a b = words.plus w a b
-operated Minus w a b = words.minus w a b
-operated Times w a b = words.times w a b
-operated And w a b = bit_and a b
-operated Or w a b = bit_or a b
-operated Xor w a b = bit_xor a b
-operated Equal w a b = words.equal a b
-operated Below w a b = words.below a b
-operated SignedBelow w a b = words.signed_below w a b
+abbrev pub operator_value : Operator → ℕ → ℕ → ℕ → ℕ
+operator_value Plus w a b = words.plus w a b
+operator_value Minus w a b = words.minus w a b
+operator_value Times w a b = words.times w a b
+operator_value And w a b = bit_and a b
+operator_value Or w a b = bit_or a b
+operator_value Xor w a b = bit_xor a b
+operator_value Equal w a b = words.equal a b
+operator_value Below w a b = words.below a b
+operator_value SignedBelow w a b = words.signed_below w a b
 
-abbrev pub shifted : Shift → ℕ → ℕ → ℕ → ℕ
-shifted Left w a k = words.shifted_left w a k
-shifted Right w a k = words.shifted_right a k
-shifted Signed w a k = words.shifted_signed w a k
+abbrev pub shift_value : Shift → ℕ → ℕ → ℕ → ℕ
+shift_value Left w a k = words.left_shift w a k
+shift_value Right w a k = words.right_shift a k
+shift_value Signed w a k = words.signed_shift w a k
 
 -- the value of an expression where leaf i is the word that leaves gives to i
 abbrev pub value : (ℕ → ℕ) → Expr → ℕ
 value leaves (Leaf i) = leaves i
 value leaves (Number w v) = v
-value leaves (Two operator w x y) = operated operator w (value leaves x) (value leaves y)
+value leaves (Two operator w x y) = operator_value operator w (value leaves x) (value leaves y)
 value leaves (Not w x) = words.complement w (value leaves x)
-value leaves (Shifted shift w x k) = shifted shift w (value leaves x) k
-value leaves (Joined n x y) = words.joined n (value leaves x) (value leaves y)
+value leaves (Shifted shift w x k) = shift_value shift w (value leaves x) k
+value leaves (Joined n x y) = words.concatenation n (value leaves x) (value leaves y)
 value leaves (Cut x k n) = words.cut (value leaves x) k n
-value leaves (Extended m n x) = words.extended m n (value leaves x)
+value leaves (Extended m n x) = words.sign_extension m n (value leaves x)
 value leaves (Choice c x y) = words.choice (value leaves c) (value leaves x) (value leaves y)
+
+-- the leaves that an expression names, in their order
+abbrev pub leaves_of : Expr → List ℕ
+leaves_of (Leaf i) = i ∷ []
+leaves_of (Number w v) = []
+leaves_of (Two operator w x y) = leaves_of x ++ leaves_of y
+leaves_of (Not w x) = leaves_of x
+leaves_of (Shifted shift w x k) = leaves_of x
+leaves_of (Joined n x y) = leaves_of x ++ leaves_of y
+leaves_of (Cut x k n) = leaves_of x
+leaves_of (Extended m n x) = leaves_of x
+leaves_of (Choice c x y) = leaves_of c ++ leaves_of x ++ leaves_of y

@@ -24,66 +24,66 @@ abbrev pub is_negative : ℕ → Expr
 is_negative w = top_of w (Leaf 0)
 
 -- the exclusive or of the result's bits from 0 to k
-abbrev pub bits_joined : ℕ → Expr
-bits_joined zero = Cut (Leaf 0) 0 1
-bits_joined (suc k) = Two Xor 1 (bits_joined k) (Cut (Leaf 0) (suc k) 1)
+abbrev pub parity_bit : ℕ → Expr
+parity_bit zero = Cut (Leaf 0) 0 1
+parity_bit (suc k) = Two Xor 1 (parity_bit k) (Cut (Leaf 0) (suc k) 1)
 
 -- the low eight bits have an even number of ones
 abbrev pub is_even : Expr
-is_even = Not 1 (bits_joined 7)
+is_even = Not 1 (parity_bit 7)
 
 -- a sum carries out where it is below its left operand, and overflows where both operands have the other sign
-abbrev pub sum_carries : ℕ → Expr
-sum_carries w = Two Below w (Leaf 0) (Leaf 1)
+abbrev pub sum_carry : ℕ → Expr
+sum_carry w = Two Below w (Leaf 0) (Leaf 1)
 
-abbrev pub sum_overflows : ℕ → Expr
-sum_overflows w = top_of w (Two And w (Two Xor w (Leaf 1) (Leaf 0)) (Two Xor w (Leaf 2) (Leaf 0)))
+abbrev pub sum_overflow : ℕ → Expr
+sum_overflow w = top_of w (Two And w (Two Xor w (Leaf 1) (Leaf 0)) (Two Xor w (Leaf 2) (Leaf 0)))
 
 -- a difference borrows where the left operand is below the right one
-abbrev pub difference_borrows : ℕ → Expr
-difference_borrows w = Two Below w (Leaf 1) (Leaf 2)
+abbrev pub difference_borrow : ℕ → Expr
+difference_borrow w = Two Below w (Leaf 1) (Leaf 2)
 
-abbrev pub difference_overflows : ℕ → Expr
-difference_overflows w = top_of w (Two And w (Two Xor w (Leaf 1) (Leaf 2)) (Two Xor w (Leaf 1) (Leaf 0)))
+abbrev pub difference_overflow : ℕ → Expr
+difference_overflow w = top_of w (Two And w (Two Xor w (Leaf 1) (Leaf 2)) (Two Xor w (Leaf 1) (Leaf 0)))
 
--- the last bit that a shift by k puts out
-abbrev pub left_out : ℕ → ℕ → Expr
-left_out w k = Cut (Leaf 1) (w - k) 1
+-- the carry of a shift by k: the last bit that it puts out
+abbrev pub left_shift_carry : ℕ → ℕ → Expr
+left_shift_carry w k = Cut (Leaf 1) (w - k) 1
 
-abbrev pub right_out : ℕ → Expr
-right_out k = Cut (Leaf 1) (k - 1) 1
+abbrev pub right_shift_carry : ℕ → Expr
+right_shift_carry k = Cut (Leaf 1) (k - 1) 1
 
 -- a rule for a count of 1 alone; the flag is unset for others
 abbrev pub at_one : ℕ → Expr → Rule
 at_one k x = if k == 1 then Sets x else Unsets
 
 abbrev pub carry_rule : Op → ℕ → ℕ → Rule
-carry_rule ops.Add w k = Sets (sum_carries w)
-carry_rule ops.Sub w k = Sets (difference_borrows w)
-carry_rule ops.Cmp w k = Sets (difference_borrows w)
-carry_rule ops.Neg w k = Sets (difference_borrows w)
+carry_rule ops.Add w k = Sets (sum_carry w)
+carry_rule ops.Sub w k = Sets (difference_borrow w)
+carry_rule ops.Cmp w k = Sets (difference_borrow w)
+carry_rule ops.Neg w k = Sets (difference_borrow w)
 carry_rule ops.Test w k = Sets (Number 1 0)
 carry_rule ops.And w k = Sets (Number 1 0)
 carry_rule ops.Or w k = Sets (Number 1 0)
 carry_rule ops.Xor w k = Sets (Number 1 0)
-carry_rule ops.Shl w k = Sets (left_out w k)
-carry_rule ops.Shr w k = Sets (right_out k)
-carry_rule ops.Sar w k = Sets (right_out k)
+carry_rule ops.Shl w k = Sets (left_shift_carry w k)
+carry_rule ops.Shr w k = Sets (right_shift_carry k)
+carry_rule ops.Sar w k = Sets (right_shift_carry k)
 carry_rule ops.Imul w k = Unsets
 carry_rule _ w k = Keeps
 
 abbrev pub overflow_rule : Op → ℕ → ℕ → Rule
-overflow_rule ops.Add w k = Sets (sum_overflows w)
-overflow_rule ops.Inc w k = Sets (sum_overflows w)
-overflow_rule ops.Sub w k = Sets (difference_overflows w)
-overflow_rule ops.Cmp w k = Sets (difference_overflows w)
-overflow_rule ops.Dec w k = Sets (difference_overflows w)
-overflow_rule ops.Neg w k = Sets (difference_overflows w)
+overflow_rule ops.Add w k = Sets (sum_overflow w)
+overflow_rule ops.Inc w k = Sets (sum_overflow w)
+overflow_rule ops.Sub w k = Sets (difference_overflow w)
+overflow_rule ops.Cmp w k = Sets (difference_overflow w)
+overflow_rule ops.Dec w k = Sets (difference_overflow w)
+overflow_rule ops.Neg w k = Sets (difference_overflow w)
 overflow_rule ops.Test w k = Sets (Number 1 0)
 overflow_rule ops.And w k = Sets (Number 1 0)
 overflow_rule ops.Or w k = Sets (Number 1 0)
 overflow_rule ops.Xor w k = Sets (Number 1 0)
-overflow_rule ops.Shl w k = at_one k (Two Xor 1 (top_of w (Leaf 0)) (left_out w k))
+overflow_rule ops.Shl w k = at_one k (Two Xor 1 (top_of w (Leaf 0)) (left_shift_carry w k))
 overflow_rule ops.Shr w k = at_one k (top_of w (Leaf 1))
 overflow_rule ops.Sar w k = at_one k (Number 1 0)
 overflow_rule ops.Imul w k = Unsets
@@ -125,19 +125,19 @@ flag_leaves r a b (suc zero) = a
 flag_leaves r a b (suc (suc i)) = b
 
 -- a flag after the instruction
-abbrev pub ruled : (ℕ → ℕ) → Rule → Option Bool → Option Bool
-ruled leaves Keeps old = old
-ruled leaves Unsets old = None
-ruled leaves (Sets x) old = Some (value leaves x == 1)
+abbrev pub flag_by_rule : (ℕ → ℕ) → Rule → Option Bool → Option Bool
+flag_by_rule leaves Keeps old = old
+flag_by_rule leaves Unsets old = None
+flag_by_rule leaves (Sets x) old = Some (value leaves x == 1)
 
 -- The flags after an instruction on the destination a and the source b; a shift's count is its source.
 unfoldable pub flags_after : Op → ℕ → ℕ → ℕ → Flags → Flags
 flags_after op w a b before =
     let leaves = flag_leaves (computed op w a b) (left_operand op a) (right_operand op a b) in
     record {
-      cf = ruled leaves (carry_rule op w b) before.cf;
-      pf = ruled leaves (result_rule op is_even) before.pf;
-      zf = ruled leaves (result_rule op (is_zero w)) before.zf;
-      sf = ruled leaves (result_rule op (is_negative w)) before.sf;
-      of = ruled leaves (overflow_rule op w b) before.of;
+      cf = flag_by_rule leaves (carry_rule op w b) before.cf;
+      pf = flag_by_rule leaves (result_rule op is_even) before.pf;
+      zf = flag_by_rule leaves (result_rule op (is_zero w)) before.zf;
+      sf = flag_by_rule leaves (result_rule op (is_negative w)) before.sf;
+      of = flag_by_rule leaves (overflow_rule op w b) before.of;
     }

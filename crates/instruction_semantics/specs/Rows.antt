@@ -40,13 +40,13 @@ row_expr ops.Nop w k = Leaf 0
 row_expr ops.Endbr64 w k = Leaf 0
 
 -- the leaves of a row: the destination, and the source at every other number
-abbrev pub operands : ℕ → ℕ → ℕ → ℕ
-operands destination source zero = destination
-operands destination source (suc i) = source
+abbrev pub scalar_leaves : ℕ → ℕ → ℕ → ℕ
+scalar_leaves destination source zero = destination
+scalar_leaves destination source (suc i) = source
 
 -- what a row computes of the destination a and the source b; a shift's count is its source
 abbrev pub computed : Op → ℕ → ℕ → ℕ → ℕ
-computed op w a b = value (operands a b) (row_expr op w b)
+computed op w a b = value (scalar_leaves a b) (row_expr op w b)
 
 -- both operands are words of w bits
 abbrev pub AreWords : ℕ → ℕ → ℕ → Type 0

@@ -25,26 +25,26 @@ abbrev pub cut : ℕ → ℕ → ℕ → ℕ
 cut a k n = a / 2 ^ k % 2 ^ n
 
 -- high bits in front of n low ones
-abbrev pub joined : ℕ → ℕ → ℕ → ℕ
-joined n high low = high * 2 ^ n + low
+abbrev pub concatenation : ℕ → ℕ → ℕ → ℕ
+concatenation n high low = high * 2 ^ n + low
 
 -- the highest bit of m bits
 abbrev pub top : ℕ → ℕ → ℕ
 top m a = a / 2 ^ (m - 1) % 2
 
 -- from m bits to n by the sign: the new bits are copies of the highest
-abbrev pub extended : ℕ → ℕ → ℕ → ℕ
-extended m n a = top m a * (2 ^ n - 2 ^ m) + a
+abbrev pub sign_extension : ℕ → ℕ → ℕ → ℕ
+sign_extension m n a = top m a * (2 ^ n - 2 ^ m) + a
 
 -- shifts by k, to the left, to the right with zeros, to the right with the sign
-abbrev pub shifted_left : ℕ → ℕ → ℕ → ℕ
-shifted_left w a k = a * 2 ^ k % 2 ^ w
+abbrev pub left_shift : ℕ → ℕ → ℕ → ℕ
+left_shift w a k = a * 2 ^ k % 2 ^ w
 
-abbrev pub shifted_right : ℕ → ℕ → ℕ
-shifted_right a k = a / 2 ^ k
+abbrev pub right_shift : ℕ → ℕ → ℕ
+right_shift a k = a / 2 ^ k
 
-abbrev pub shifted_signed : ℕ → ℕ → ℕ → ℕ
-shifted_signed w a k = extended (w - k) w (a / 2 ^ k)
+abbrev pub signed_shift : ℕ → ℕ → ℕ → ℕ
+signed_shift w a k = sign_extension (w - k) w (a / 2 ^ k)
 
 -- comparisons: equal, below as whole numbers, and below by the sign, which is below where the highest bits are turned
 abbrev pub equal : ℕ → ℕ → ℕ

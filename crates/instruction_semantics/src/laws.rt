@@ -1,15 +1,14 @@
-//! First laws of words and rows, each for all numbers: what the definitions of `specs/` must have if
-//! they say what words do. The functions do nothing; their contracts are the laws.
+//! Laws of words and of what rows compute. The functions do nothing; their contracts are the laws.
 
-ghost use Rattle.std.specs.Prelude.{◌≡◌, ℕ, ◌+◌, ◌-◌, ◌/◌, ◌%◌, ◌^◌, ◌<◌, ◌≤◌, ◌==◌, nat_lt, Some};
-ghost use Rattle.align_base.specs.declared.op.Cond.TheVariants as conds;
-ghost use Rattle.align_base.specs.declared.op.Flags.{Flags};
+ghost use Rattle.std.specs.Prelude.{◌≡◌, ℕ, pos, ◌+◌, ◌-◌, ◌/◌, ◌%◌, ◌^◌, ◌<◌, ◌≤◌, int_lt};
+ghost use Rattle.std.specs.Int.{int_shr};
+ghost use Rattle.align_base.specs.declared.op.Cond.{Cond};
 ghost use Rattle.align_base.specs.declared.op.Op.{Op};
 ghost use Rattle.align_base.specs.declared.op.Op.TheVariants as ops;
-ghost use Rattle.instruction_semantics.specs.Conditions.{cond_of};
-ghost use Rattle.instruction_semantics.specs.FlagRules.{flags_after};
-ghost use Rattle.instruction_semantics.specs.Rows.{Computes, computed};
-ghost use Rattle.instruction_semantics.specs.Words.{plus, minus, complement, cut, joined, extended, shifted_left, shifted_right, equal, below, signed_below};
+ghost use Rattle.instruction_semantics.specs.Exprs.{value};
+ghost use Rattle.instruction_semantics.specs.Rows.{Computes, computed, row_expr};
+ghost use Rattle.instruction_semantics.specs.SignedNumbers.{signed_number};
+ghost use Rattle.instruction_semantics.specs.Words.{bit, plus, minus, complement, cut, concatenation, top, sign_extension, left_shift, right_shift, signed_shift, equal, below, signed_below};
 
 /// A sum and a difference undo each other.
 #[tactic(auto, using(crate::proofs::WordLaws::laws))]
@@ -34,21 +33,37 @@ pub fn complements_undo_themselves()
 /// The parts that were joined can be cut out again.
 #[tactic(auto, using(crate::proofs::WordLaws::laws))]
 pub fn cuts_undo_joins()
-    ensures high { (m n high low : ℕ) → high < 2 ^ m → low < 2 ^ n → cut (joined n high low) n m ≡ high }
-    ensures low { (n high low : ℕ) → low < 2 ^ n → cut (joined n high low) 0 n ≡ low }
+    ensures high { (m n high low : ℕ) → high < 2 ^ m → low < 2 ^ n → cut (concatenation n high low) n m ≡ high }
+    ensures low { (n high low : ℕ) → low < 2 ^ n → cut (concatenation n high low) 0 n ≡ low }
 {}
 
 /// A word extended by its sign has the same low bits, and is a word of the wider width.
 #[tactic(auto, using(crate::proofs::WordLaws::laws))]
 pub fn extensions_keep_the_low_bits()
-    ensures low { (m n a : ℕ) → m ≤ n → a < 2 ^ m → extended m n a % 2 ^ m ≡ a }
-    ensures below { (m n a : ℕ) → m ≤ n → a < 2 ^ m → extended m n a < 2 ^ n }
+    ensures low { (m n a : ℕ) → m ≤ n → a < 2 ^ m → sign_extension m n a % 2 ^ m ≡ a }
+    ensures below { (m n a : ℕ) → m ≤ n → a < 2 ^ m → sign_extension m n a < 2 ^ n }
+{}
+
+/// It is the same signed number, so it has the same sign.
+#[tactic(auto, using(crate::proofs::SignedWords::signed_words))]
+pub fn extensions_keep_the_signed_number()
+    ensures number { (m n a : ℕ) → 0 < m → m ≤ n → a < 2 ^ m
+        → signed_number n (sign_extension m n a) ≡ signed_number m a }
+    ensures sign { (m n a : ℕ) → 0 < m → m ≤ n → a < 2 ^ m → top n (sign_extension m n a) ≡ top m a }
 {}
 
 /// A shift to the left and back to the right drops the high bits alone.
 #[tactic(auto, using(crate::proofs::WordLaws::laws))]
 pub fn shifts_drop_the_high_bits()
-    ensures { (w k a : ℕ) → k ≤ w → shifted_right (shifted_left w a k) k ≡ a % 2 ^ (w - k) }
+    ensures { (w k a : ℕ) → k ≤ w → right_shift (left_shift w a k) k ≡ a % 2 ^ (w - k) }
+{}
+
+/// A shift to the right by the sign divides the signed number by 2^k, rounded down, and keeps the sign.
+#[tactic(auto, using(crate::proofs::SignedWords::signed_words))]
+pub fn signed_shifts_divide_the_signed_number()
+    ensures number { (w a k : ℕ) → k < w → a < 2 ^ w
+        → signed_number w (signed_shift w a k) ≡ int_shr (signed_number w a) k }
+    ensures sign { (w a k : ℕ) → k < w → a < 2 ^ w → top w (signed_shift w a k) ≡ top w a }
 {}
 
 /// Of two words, one is below the other or they are equal, and only one of the three holds.
@@ -57,24 +72,37 @@ pub fn one_order_holds()
     ensures { (a b : ℕ) → below a b + equal a b + below b a ≡ 1 }
 {}
 
+/// A word is below another by the sign where its signed number is below, and its highest bit says
+/// whether its signed number is negative.
+#[tactic(auto, using(crate::proofs::Comparisons::comparisons, crate::proofs::SignedWords::signed_words))]
+pub fn signs_order_signed_numbers()
+    ensures below { (w a b : ℕ) → 0 < w → a < 2 ^ w → b < 2 ^ w
+        → signed_below w a b ≡ bit (int_lt (signed_number w a) (signed_number w b)) }
+    ensures negative { (w a : ℕ) → 0 < w → a < 2 ^ w → top w a ≡ bit (int_lt (signed_number w a) (pos 0)) }
+{}
+
 /// What a row computes is a word of its width.
 #[tactic(auto, using(crate::proofs::WordLaws::laws))]
 pub fn rows_compute_words()
     ensures { (op : Op) (w a b : ℕ) → Computes op w a b → computed op w a b < 2 ^ w }
 {}
 
-/// After a comparison of two words the conditions tell how they compare: `e` whether they are equal,
-/// `b` whether the first is below as a whole number, and `l` whether it is below by the sign.
-#[tactic(auto, using(crate::proofs::Comparisons::comparisons))]
-pub fn conditions_tell_the_order()
-    ensures equal { (w a b : ℕ) (before : Flags) → a < 2 ^ w → b < 2 ^ w → cond_of conds.E (flags_after ops.Cmp w a b before) ≡ Some (a == b) }
-    ensures below { (w a b : ℕ) (before : Flags) → cond_of conds.B (flags_after ops.Cmp w a b before) ≡ Some (nat_lt a b) }
-    ensures less { (w a b : ℕ) (before : Flags) → 0 < w → a < 2 ^ w → b < 2 ^ w → cond_of conds.L (flags_after ops.Cmp w a b before) ≡ Some (signed_below w a b == 1) }
+/// `movz` keeps the number of its source, and `movs` and `cltq` keep the signed number.
+#[tactic(auto, using(crate::proofs::SignedWords::signed_words))]
+pub fn widening_rows_keep_the_number()
+    ensures zero_extension { (m w a b : ℕ) → Computes (ops.Movzx m) w a b → computed (ops.Movzx m) w a b ≡ b }
+    ensures sign_extension { (m w a b : ℕ) → Computes (ops.Movsx m) w a b
+        → signed_number w (computed (ops.Movsx m) w a b) ≡ signed_number m b }
+    ensures conversion { (w a b : ℕ) → Computes ops.Cltq w a b
+        → signed_number w (computed ops.Cltq w a b) ≡ signed_number 32 b }
 {}
 
-/// After a sum `l` tells whether the sum of the signed numbers is negative, also where it has no word:
-/// an operand with its highest bit turned is its signed number and 2^(w - 1).
-#[tactic(auto, using(crate::proofs::Comparisons::comparisons))]
-pub fn conditions_tell_the_sign_of_a_sum()
-    ensures { (w a b : ℕ) (before : Flags) → 0 < w → a < 2 ^ w → b < 2 ^ w → cond_of conds.L (flags_after ops.Add w a b before) ≡ Some (nat_lt (plus w a (2 ^ (w - 1)) + plus w b (2 ^ (w - 1))) (2 ^ w)) }
+/// `cmovCC` gives the source where its condition holds (leaf 2 is 1) and else the destination, and
+/// `setCC` gives 1 or 0, which is leaf 2.
+pub fn conditional_rows_follow_the_condition()
+    ensures source { (leaves : ℕ → ℕ) (c : Cond) (w k : ℕ) → leaves 2 ≡ 1
+        → value leaves (row_expr (ops.Cmov c) w k) ≡ leaves 1 }
+    ensures destination { (leaves : ℕ → ℕ) (c : Cond) (w k : ℕ) → leaves 2 ≡ 0
+        → value leaves (row_expr (ops.Cmov c) w k) ≡ leaves 0 }
+    ensures set { (leaves : ℕ → ℕ) (c : Cond) (w k : ℕ) → value leaves (row_expr (ops.Set c) w k) ≡ leaves 2 }
 {}

@@ -38,9 +38,9 @@ shifted_below a w k h below =
     shr_below a (w - k) k (rw e h)
 
 -- a number below q, with t times the ones between q and p in front of it
-pub extended_below : (t p q a : ℕ) → t < 2 → q ≤ p → a < q → t * (p - 1 - (q - 1)) + a < p
-extended_below zero p q a h order word = omega arith
-extended_below (suc zero) p q a h order word = omega arith
-extended_below (suc (suc t)) p q a h order word = absurd (omega arith)
+pub copies_below : (t p q a : ℕ) → t < 2 → q ≤ p → a < q → t * (p - 1 - (q - 1)) + a < p
+copies_below zero p q a h order word = omega arith
+copies_below (suc zero) p q a h order word = omega arith
+copies_below (suc (suc t)) p q a h order word = absurd (omega arith)
 
 pub ruleset masks = (and_mask, mask_lt, low_of_64, mask_is)

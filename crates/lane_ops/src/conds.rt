@@ -1,3 +1,5 @@
+//! Whether a condition holds of flags.
+
 ghost use Rattle.std.specs.Prelude.{◌≡◌};
 ghost use Rattle.instruction_semantics.specs.Conditions.{cond_of};
 
@@ -27,6 +29,7 @@ pub fn holds(cond: Cond, flags: &Flags) -> Option<bool>
     }
 }
 
+/// Carry or zero.
 fn is_below_or_equal(flags: &Flags) -> Option<bool>
     ensures { result ≡ cond_of Cond.Be flags.now }
 {
@@ -35,6 +38,7 @@ fn is_below_or_equal(flags: &Flags) -> Option<bool>
     Some(carry | zero)
 }
 
+/// Sign and overflow differ: below as signed numbers.
 fn is_less(flags: &Flags) -> Option<bool>
     ensures { result ≡ cond_of Cond.L flags.now }
 {
@@ -43,6 +47,7 @@ fn is_less(flags: &Flags) -> Option<bool>
     Some(sign ^ overflow)
 }
 
+/// Zero, or below as signed numbers.
 fn is_less_or_equal(flags: &Flags) -> Option<bool>
     ensures { result ≡ cond_of Cond.Le flags.now }
 {

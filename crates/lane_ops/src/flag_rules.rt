@@ -1,6 +1,8 @@
+//! The flags after each operation.
+
 ghost use Rattle.std.specs.Prelude.{◌≡◌, ◌<◌, ◌-◌, ◌==◌, if◌then◌else◌};
 ghost use Rattle.instruction_semantics.specs.Exprs.{value, Two, Xor, Leaf};
-ghost use Rattle.instruction_semantics.specs.FlagRules.{flags_after, flag_leaves, is_even, sum_overflows, difference_overflows, left_out, right_out, top_of};
+ghost use Rattle.instruction_semantics.specs.FlagRules.{flags_after, flag_leaves, is_even, sum_overflow, difference_overflow, left_shift_carry, right_shift_carry, top_of};
 ghost use Rattle.instruction_semantics.specs.Words.{cut};
 ghost use Rattle.instruction_semantics.specs.Rows.{Computes};
 ghost use Rattle.lane_ops.specs.ResultFlags.{result_flags};
@@ -8,6 +10,7 @@ ghost use Rattle.lane_ops.specs.ResultFlags.{result_flags};
 use crate::rows::scalar;
 use align_base::{Flags, Op};
 
+/// No flag has a value.
 const ALL_UNSET: Flags = Flags {
     cf: None,
     pf: None,
@@ -42,29 +45,29 @@ pub fn flags(op: Op, width: u32, a: u64, b: u64, before: Flags) -> Flags
     }
 }
 
-// The flags of the sum r of a and b, with this carry.
+/// The flags of the sum r of a and b, with this carry.
 fn of_sum(width: u32, r: u64, carry: Option<bool>, a: u64, b: u64) -> Flags
     requires { (0 < width) × (width < 65) }
-    ensures { result ≡ result_flags width r carry (Some (value (flag_leaves r a b) (sum_overflows width) == 1)) }
+    ensures { result ≡ result_flags width r carry (Some (value (flag_leaves r a b) (sum_overflow width) == 1)) }
 {
     let overflow = is_top_set(width, (a ^ r) & (b ^ r));
     of_result(width, r, carry, Some(overflow))
 }
 
-// The flags of the difference r of a and b, with this carry.
+/// The flags of the difference r of a and b, with this carry.
 fn of_difference(width: u32, r: u64, carry: Option<bool>, a: u64, b: u64) -> Flags
     requires { (0 < width) × (width < 65) }
-    ensures { result ≡ result_flags width r carry (Some (value (flag_leaves r a b) (difference_overflows width) == 1)) }
+    ensures { result ≡ result_flags width r carry (Some (value (flag_leaves r a b) (difference_overflow width) == 1)) }
 {
     let overflow = is_top_set(width, (a ^ b) & (a ^ r));
     of_result(width, r, carry, Some(overflow))
 }
 
-// The flags of the shift of a to the left, whose result is r.
+/// The flags of the shift of a to the left, whose result is r.
 fn of_left_shift(width: u32, r: u64, a: u64, count: u64) -> Flags
     requires { (0 < count) × (count < width) × (width < 65) }
-    ensures { result ≡ result_flags width r (Some (value (flag_leaves r a count) (left_out width count) == 1))
-        (if count == 1 then Some (value (flag_leaves r a count) (Two Xor 1 (top_of width (Leaf 0)) (left_out width count)) == 1) else None) }
+    ensures { result ≡ result_flags width r (Some (value (flag_leaves r a count) (left_shift_carry width count) == 1))
+        (if count == 1 then Some (value (flag_leaves r a count) (Two Xor 1 (top_of width (Leaf 0)) (left_shift_carry width count)) == 1) else None) }
 {
     let out = width as u64 - count;
     let sign_changed = is_bit_set((r >> (width - 1)) ^ (a >> out), 0);
@@ -76,10 +79,10 @@ fn of_left_shift(width: u32, r: u64, a: u64, count: u64) -> Flags
     )
 }
 
-// The flags of a shift of a to the right, whose result is r, with the overflow flag of a count of 1.
+/// The flags of a shift of a to the right, whose result is r, with the overflow flag of a count of 1.
 fn of_right_shift(width: u32, r: u64, a: u64, count: u64, overflow: bool) -> Flags
     requires { (0 < count) × (count < width) × (width < 65) }
-    ensures { result ≡ result_flags width r (Some (value (flag_leaves r a count) (right_out count) == 1))
+    ensures { result ≡ result_flags width r (Some (value (flag_leaves r a count) (right_shift_carry count) == 1))
         (if count == 1 then Some overflow else None) }
 {
     of_result(
@@ -90,7 +93,7 @@ fn of_right_shift(width: u32, r: u64, a: u64, count: u64, overflow: bool) -> Fla
     )
 }
 
-// The flags that are read off the result, beside these two.
+/// The flags that are read off the result, beside these two.
 fn of_result(width: u32, r: u64, carry: Option<bool>, overflow: Option<bool>) -> Flags
     requires { (0 < width) × (width < 65) }
     ensures { result ≡ result_flags width r carry overflow }
@@ -104,13 +107,14 @@ fn of_result(width: u32, r: u64, carry: Option<bool>, overflow: Option<bool>) ->
     }
 }
 
-// A shift's overflow flag is set at a count of 1 alone.
+/// A shift's overflow flag is set at a count of 1 alone.
 fn at_count_one(count: u64, overflow: bool) -> Option<bool>
     ensures { result ≡ (if count == 1 then Some overflow else None) }
 {
     if count == 1 { Some(overflow) } else { None }
 }
 
+/// Whether the highest bit of `width` is set.
 fn is_top_set(width: u32, a: u64) -> bool
     requires { (0 < width) × (width < 65) }
     ensures { result ≡ (cut a (width - 1) 1 == 1) }
@@ -118,6 +122,7 @@ fn is_top_set(width: u32, a: u64) -> bool
     is_bit_set(a, width as u64 - 1)
 }
 
+/// Whether the bit at a place is set.
 fn is_bit_set(a: u64, place: u64) -> bool
     requires { place < 64 }
     ensures { result ≡ (cut a place 1 == 1) }
@@ -125,7 +130,7 @@ fn is_bit_set(a: u64, place: u64) -> bool
     (a >> place) & 1 == 1
 }
 
-// Whether the low eight bits have an even number of ones.
+/// Whether the low eight bits have an even number of ones.
 fn is_parity_even(r: u64) -> bool
     ensures { result ≡ (value (flag_leaves r 0 0) is_even == 1) }
 {

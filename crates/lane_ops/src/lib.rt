@@ -1,14 +1,16 @@
 //! What the general instructions compute, and the flags that they set, in words of machine code.
 //!
-//! `scalar`, `flags` and `holds` are the definitions of `instruction_semantics`, run: for every width
-//! from 1 to 64 bits, and without a division.
+//! `scalar`, `flags` and `holds` are the definitions `computed`, `flags_after` and `cond_of` of
+//! `instruction_semantics`, run: for every width from 1 to 64 bits, and without a division. None of
+//! them takes memory.
+//!
+//! For example `scalar(Op::Add, 8, 0xff, 1)` is 0, the sum of two bytes; `flags(Op::Add, 8, 0xff, 1, before)`
+//! has the carry and the zero flag set, so `holds(Cond::B, ..)` of them is `Some(true)`.
 #![tactic(auto)]
 
 mod conds;
 mod flag_rules;
 mod rows;
-#[cfg(test)]
-mod tests;
 mod words;
 
 pub use conds::holds;

@@ -1,3 +1,5 @@
+//! What each operation computes of its operands.
+
 ghost use Rattle.std.specs.Prelude.{◌≡◌, ◌^◌, ◌<◌};
 ghost use Rattle.instruction_semantics.specs.Rows.{Computes, computed};
 

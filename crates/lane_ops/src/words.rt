@@ -1,7 +1,9 @@
-ghost use Rattle.std.specs.Prelude.{◌≡◌, ◌-◌, ◌/◌, ◌%◌, ◌^◌, ◌<◌, ◌≤◌};
-ghost use Rattle.instruction_semantics.specs.Words.{plus, minus, times, complement, top, extended, shifted_left, shifted_right, shifted_signed};
+//! The arithmetic of words of a width from 1 to 64 bits.
 
-// The greatest word of `width` bits.
+ghost use Rattle.std.specs.Prelude.{◌≡◌, ◌-◌, ◌/◌, ◌%◌, ◌^◌, ◌<◌, ◌≤◌};
+ghost use Rattle.instruction_semantics.specs.Words.{plus, minus, times, complement, top, sign_extension, left_shift, right_shift, signed_shift};
+
+/// The greatest word of `width` bits.
 fn mask(width: u32) -> u64
     requires { (0 < width) × (width < 65) }
     ensures { result ≡ 2 ^ width - 1 }
@@ -65,7 +67,7 @@ pub fn word_not(width: u32, a: u64) -> u64
 #[tactic(auto, using(crate::proofs::Masks::masks))]
 pub fn word_shl(width: u32, a: u64, count: u64) -> u64
     requires { (count < width) × (width < 65) }
-    ensures value { result ≡ shifted_left width a count }
+    ensures value { result ≡ left_shift width a count }
     ensures below { result < 2 ^ width }
 {
     low_bits(width, a << count)
@@ -76,7 +78,7 @@ pub fn word_shl(width: u32, a: u64, count: u64) -> u64
 pub fn word_shr(width: u32, a: u64, count: u64) -> u64
     requires count { (count < width) × (width < 65) }
     requires word { a < 2 ^ width }
-    ensures value { result ≡ shifted_right a count }
+    ensures value { result ≡ right_shift a count }
     ensures below { result < 2 ^ (width - count) }
 {
     a >> count
@@ -87,7 +89,7 @@ pub fn word_shr(width: u32, a: u64, count: u64) -> u64
 pub fn word_sar(width: u32, a: u64, count: u64) -> u64
     requires count { (count < width) × (width < 65) }
     requires word { a < 2 ^ width }
-    ensures value { result ≡ shifted_signed width a count }
+    ensures value { result ≡ signed_shift width a count }
     ensures below { result < 2 ^ width }
 {
     word_sx(width - count as u32, width, word_shr(width, a, count))
@@ -108,7 +110,7 @@ pub fn top_bit(width: u32, a: u64) -> u64
 pub fn word_sx(from: u32, width: u32, a: u64) -> u64
     requires widths { (0 < from) × (from ≤ width) × (width < 65) }
     requires word { a < 2 ^ from }
-    ensures value { result ≡ extended from width a }
+    ensures value { result ≡ sign_extension from width a }
     ensures below { result < 2 ^ width }
 {
     top_bit(from, a) * (mask(width) - mask(from)) + a

@@ -12,10 +12,10 @@ use Rattle.machine.specs.declared.state.Region.{Region}
 use Rattle.machine.specs.Access.{Access, access_of, arity, holds_access, is_allowed, is_on_stack, operand_accesses, writes}
 use Rattle.machine.specs.Kept.{IsKept, IsRegion, Kept, is_spanned, pure_of}
 use Rattle.machine.specs.Machine.{offset_from, stack_base}
-use Rattle.machine.specs.Operands.{effective, operand}
-use Rattle.machine.specs.Runnable.{IsRegister}
+use Rattle.machine.specs.Operands.{effective_address, operand}
+use Rattle.machine.specs.Runnable.{IsGeneralRegister}
 use Rattle.machine.specs.Spanned.{AreSpanned, IsSpanned}
-use Rattle.machine.specs.Step.{target_of}
+use Rattle.machine.specs.Step.{target_operand}
 use Rattle.machine.proofs.Writing.{written_allowed}
 
 -- the j-th of n bytes that lie within len ones from a base on
@@ -39,12 +39,13 @@ region_spanned k a [] at n j same bytes small each spanned h low = cc
 region_spanned k a (r ∷ rs) at n j same bytes small each spanned h low =
     elim (either_true ((not a.write || r.write) && holds_access r a) (list_any (λ r. (not a.write || r.write) && holds_access r a) rs) h) [
       | inl here ↦
-          let held : holds_access r a ≡ true = (both_true (not a.write || r.write) (holds_access r a) here).1 in
-          let bounds = within_region r.base r.len at n j each.0.fits small (rw (same, bytes) at held) low in
+          let register_or_zero : holds_access r a ≡ true = (both_true (not a.write || r.write) (holds_access r a) here).1 in
+          let bounds = within_region r.base r.len at n j each.0.fits small (rw (same, bytes) at register_or_zero) low in
           spanned.0 ((at + j) % 2 ^ 64) bounds.0 bounds.1
       | inr there ↦ region_spanned k a rs at n j same bytes small each.1 spanned.1 there low
     ]
 
+-- the bytes of an allowed access lie in spans
 pub allowed_spanned : (k : Kept) (at n : ℕ) (w : Bool) → at < 2 ^ 64 → IsKept k
     → is_allowed (pure_of k) (record { at = at; bytes = n; write = w }) ≡ true → AreSpanned k at n
 allowed_spanned k at n w small h allowed j low =
@@ -64,8 +65,8 @@ stack_spanned k at small h on j low =
 -- an operand that may be written is spanned
 operand_spanned : (k : Kept) (o : Operand) (w : ℕ) → IsKept k → list_all (is_allowed (pure_of k)) (access_of (pure_of k) o w true) ≡ true → IsSpanned k w o
 operand_spanned k (Mem base index scale disp) w h e =
-    allowed_spanned k (effective k.regs base index scale disp) (w / 8) true (omega arith) h
-    (both_true (is_allowed (pure_of k) (record { at = effective k.regs base index scale disp; bytes = w / 8; write = true })) true e).0
+    allowed_spanned k (effective_address k.regs base index scale disp) (w / 8) true (omega arith) h
+    (both_true (is_allowed (pure_of k) (record { at = effective_address k.regs base index scale disp; bytes = w / 8; write = true })) true e).0
 operand_spanned k (Reg n v) w h e = tt
 operand_spanned k (Imm v) w h e = tt
 operand_spanned k (Vec n v) w h e = tt
@@ -73,18 +74,18 @@ operand_spanned k (Pool n) w h e = tt
 operand_spanned k (Target n) w h e = tt
 operand_spanned k Nothing w h e = tt
 
-target_by : (op : Op) (i : Insn) (k : Kept) → IsSpanned k i.w (operand i (arity i - 1)) → IsSpanned k i.w (target_of op i)
+target_by : (op : Op) (i : Insn) (k : Kept) → IsSpanned k i.w (operand i (arity i - 1)) → IsSpanned k i.w (target_operand op i)
 target_by ops.Cltq i k h = tt
 target_by _ i k h = h
 
 -- what a row writes is spanned, where its accesses are allowed
 pub target_spanned : (i : Insn) (k : Kept) → IsKept k → list_all (is_allowed (pure_of k)) (operand_accesses i (pure_of k)) ≡ true → writes i.op ≡ true
-    → IsSpanned k i.w (target_of i.op i)
+    → IsSpanned k i.w (target_operand i.op i)
 target_spanned i k h allowed w =
     target_by i.op i k (operand_spanned k (operand i (arity i - 1)) i.w h (written_allowed i (pure_of k) w allowed))
 
 -- a register is no memory
-pub register_spanned : (k : Kept) (w : ℕ) (o : Operand) → IsRegister o → IsSpanned k w o
+pub register_spanned : (k : Kept) (w : ℕ) (o : Operand) → IsGeneralRegister o → IsSpanned k w o
 register_spanned k w (Reg n v) is = tt
 register_spanned k w (Mem base index scale disp) is = absurd is
 register_spanned k w (Imm v) is = absurd is

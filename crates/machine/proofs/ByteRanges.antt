@@ -31,6 +31,7 @@ byte_below : (spans : List Span) → AllByRecursion HoldsBytes spans → (at : �
 byte_below [] hold at = omega arith
 byte_below (span ∷ spans) hold at = either_below (spans_address span at) _ _ (hold.0 _) (byte_below spans hold.1 at)
 
+-- each byte of spans is below 256
 pub bytes_below : (spans : List Span) → All HoldsBytes spans → (at : ℕ) → byte_of spans at < 256
 bytes_below spans hold = byte_below spans (recursion_from_All HoldsBytes spans hold)
 
@@ -40,9 +41,11 @@ vec_at [] hold n v is = cc
 vec_at (x ∷ xs) hold zero v is = subst (λ (o : Option (List ℕ)). IfSome o IsVec) is hold.0
 vec_at (x ∷ xs) hold (suc n) v is = vec_at xs hold.1 n v is
 
+-- sixteen vectors of 32 bytes are in their ranges
 pub vecs_in_range : (vecs : List Bytes32) → length vecs ≡ 16 → All (λ (v : Bytes32). IsVec v.bytes) vecs → AreVecs (map (λ (v : Bytes32). v.bytes) vecs)
 vecs_in_range vecs sixteen hold = record { sixteen = length-map vecs (λ (v : Bytes32). v.bytes) ∙ sixteen; each = vec_at vecs (recursion_from_All (λ (v : Bytes32). IsVec v.bytes) vecs hold) }
 
+-- what is kept of a start state means one
 pub is_start : (regs : List ℕ) (vecs : List Bytes32) (spans read : List Span) (regions : List Region) (stack : ℕ)
     → AreRegs regs → AreVecs (map (λ (v : Bytes32). v.bytes) vecs) → read ≡ spans → ((at : ℕ) → byte_of read at < 256)
     → IsStart (pure_of (kept_start regs vecs spans regions stack))

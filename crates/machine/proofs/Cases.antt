@@ -7,10 +7,10 @@ use Rattle.insn_table.specs.declared.insn.Insn.{Insn}
 use Rattle.insn_table.specs.declared.insn.Operand.{Operand}
 use Rattle.insn_table.specs.declared.insn.Operand.TheVariants.{Reg, Imm, Mem, Nothing}
 use Rattle.instruction_semantics.specs.FlagRules.{flags_after}
-use Rattle.machine.specs.declared.state.RunEnd.{RunEnd}
-use Rattle.machine.specs.declared.state.RunEnd.TheVariants.{Returned, Faulted, Unset, Running}
+use Rattle.runs.specs.declared.ends.RunEnd.{RunEnd}
+use Rattle.runs.specs.declared.ends.RunEnd.TheVariants.{Returned, Faulted, Unset}
 use Rattle.machine.specs.Machine.{Machine, no_flags}
-use Rattle.machine.specs.Run.{Step, Goes, run_of, end_of}
+use Rattle.runs.specs.Run.{Step, Goes, run_of, end_of}
 use Rattle.machine.specs.Step.{step_of}
 
 abbrev two : Op → ℕ → Operand → Operand → Insn

@@ -10,7 +10,7 @@ use Rattle.insn_table.specs.declared.insn.Insn.{Insn}
 use Rattle.insn_table.specs.declared.insn.Operand.{Operand}
 use Rattle.insn_table.specs.declared.insn.Operand.TheVariants.{Reg, Imm, Mem, Vec, Pool, Target, Nothing}
 use Rattle.insn_table.specs.declared.forms.Class.{Class}
-use Rattle.insn_table.specs.declared.forms.Class.TheVariants.{Register, Place, Count, Address, Label, Absent}
+use Rattle.insn_table.specs.declared.forms.Class.TheVariants.{Register, Writable, Count, Address, Label, Absent}
 use Rattle.insn_table.specs.Forms.{Form, forms, form_of, insn_of, is_target, number_fits, numbers_fit, one, takes, takes_kind, two, is_nothing}
 use Rattle.insn_table.specs.Closed.{IsClosed, IsInside}
 use Rattle.insn_table.specs.Spellings.{Row, general_rows, add_to_cltq, cmova_to_cmovnc, cmovne_to_cmovz, cmp_to_lea, mov_to_sar, set_rows, shl_to_xor}
@@ -19,8 +19,8 @@ use Rattle.insn_table.proofs.Bools.{both_true, either_true}
 use Rattle.insn_table.proofs.TableInsns.{form-wide, judged-ok, passed_at, wide-cases}
 use Rattle.machine.specs.Access.{arity}
 use Rattle.machine.specs.Operands.{operand}
-use Rattle.machine.specs.Runnable.{HasCount, HasRowOf, IsRegister, IsRunnable, IsRunnableFunction, IsWidth, JumpsBelow}
-use Rattle.machine.specs.Step.{jump_place, target_of}
+use Rattle.machine.specs.Runnable.{HasCount, HasRowOf, IsGeneralRegister, IsRunnable, IsRunnableFunction, IsWidth, JumpsBelow}
+use Rattle.machine.specs.Step.{jump_place, target_operand}
 
 -- widths
 
@@ -45,7 +45,7 @@ rows_widths = refl
 
 table-widths : (i : Insn) → IsTableInsn i → has_widths i.op i.w ≡ true
 unfolding names_widths
-table-widths i t = passed_at names_widths general_rows t.row.place (t.word, shape_of i) rows_widths t.row.there
+table-widths i t = passed_at names_widths general_rows t.row.index (t.mnemonic, shape_of i) rows_widths t.row.there
 
 width-from_test : (w : ℕ) → is_width w ≡ true → IsWidth w
 width-from_test w h =
@@ -110,15 +110,15 @@ count_of w (Pool at) kind fits = absurd (cc)
 count_of w (Target place) kind fits = absurd (cc)
 count_of w Nothing kind fits = absurd (cc)
 
-shift-count : (i : Insn) → IsTaken (two (Count i.w) (Place i.w)) i → HasCount i
+shift-count : (i : Insn) → IsTaken (two (Count i.w) (Writable i.w)) i → HasCount i
 shift-count i taken =
-    let form = two (Count i.w) (Place i.w) in
+    let form = two (Count i.w) (Writable i.w) in
     let c = count_of i.w (operand i 0) (kind_at i form 0 (Count i.w) taken refl) (number_at i form 0 (Count i.w) taken refl) in
     record { count = c.0; source = c.1; some = c.2; below = c.3 }
 
 -- the register that `lea` writes
 
-register_is : (w : ℕ) (o : Operand) → takes_kind (Register w) o ≡ true → IsRegister o
+register_is : (w : ℕ) (o : Operand) → takes_kind (Register w) o ≡ true → IsGeneralRegister o
 register_is w (Reg n v) kind = tt
 register_is w (Imm n) kind = absurd (cc)
 register_is w (Mem base index scale disp) kind = absurd (cc)
@@ -148,23 +148,23 @@ nothing_is (Vec n v) kind = absurd (cc)
 nothing_is (Pool at) kind = absurd (cc)
 nothing_is (Target place) kind = absurd (cc)
 
-lea-target : (i : Insn) → IsTaken (two Address (Register i.w)) i → IsRegister (target_of ops.Lea i)
+lea-target : (i : Insn) → IsTaken (two Address (Register i.w)) i → IsGeneralRegister (target_operand ops.Lea i)
 lea-target i taken =
     let form = two Address (Register i.w) in
-    let written = kind_at i form 1 (Register i.w) taken refl in
+    let regs_with = kind_at i form 1 (Register i.w) taken refl in
     let first = something Address (operand i 0) (kind_at i form 0 Address taken refl) refl in
-    let second = something (Register i.w) (operand i 1) written refl in
+    let second = something (Register i.w) (operand i 1) regs_with refl in
     let third = nothing_is (operand i 2) (kind_at i form 2 Absent taken refl) in
-    subst (λ (n : ℕ). IsRegister (operand i (n - 1))) (sym (two_operands i first second third)) (register_is i.w (operand i 1) written)
+    subst (λ (n : ℕ). IsGeneralRegister (operand i (n - 1))) (sym (two_operands i first second third)) (register_is i.w (operand i 1) regs_with)
 
 -- what a row needs, from the form that was found
 
 table-row : (op : Op) (i : Insn) (form : Form) → has_widths op i.w ≡ true → find (takes i.args) (forms op i.w) ≡ Some form → numbers_fit i.args form ≡ true
     → HasRowOf op i
 unfolding has_widths
-table-row ops.Shl i form widths found fits = shift-count i (taken-by_one i (two (Count i.w) (Place i.w)) form found fits)
-table-row ops.Shr i form widths found fits = shift-count i (taken-by_one i (two (Count i.w) (Place i.w)) form found fits)
-table-row ops.Sar i form widths found fits = shift-count i (taken-by_one i (two (Count i.w) (Place i.w)) form found fits)
+table-row ops.Shl i form widths found fits = shift-count i (taken-by_one i (two (Count i.w) (Writable i.w)) form found fits)
+table-row ops.Shr i form widths found fits = shift-count i (taken-by_one i (two (Count i.w) (Writable i.w)) form found fits)
+table-row ops.Sar i form widths found fits = shift-count i (taken-by_one i (two (Count i.w) (Writable i.w)) form found fits)
 table-row ops.Lea i form widths found fits = lea-target i (taken-by_one i (two Address (Register i.w)) form found fits)
 table-row (ops.Movzx m) i form widths found fits = extended m i.w widths
 table-row (ops.Movsx m) i form widths found fits = extended m i.w widths
@@ -200,6 +200,7 @@ table-form : (i : Insn) → IsTableInsn i → HasFound i
 table-form i t =
     let judged = judged-ok _ (insn_of (shape_of i) i.args i.line) i t.accepted in subst HasFound judged.0 judged.1
 
+-- an instruction of the table can be run
 pub table-runnable : (n : ℕ) (i : Insn) → IsTableInsn i → AllByRecursion (IsInside n) i.args → IsRunnable n i
 table-runnable n i t inside =
     let found = table-form i t in
@@ -220,6 +221,6 @@ closed-runnable insns c = record {
 }
 
 -- What `lea` writes is a register.
-pub lea_register : (i : Insn) → IsTableInsn i → i.op ≡ ops.Lea → IsRegister (target_of ops.Lea i)
+pub lea_register : (i : Insn) → IsTableInsn i → i.op ≡ ops.Lea → IsGeneralRegister (target_operand ops.Lea i)
 lea_register i t e =
     let found = table-form i t in subst (λ (op : Op). HasRowOf op i) e (table-row i.op i found.0 (table-widths i t) found.1 found.2)

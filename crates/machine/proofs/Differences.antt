@@ -22,6 +22,7 @@ by_test : (b : Bool) (P : Type 0) → Decides b P → MatchBool b P (P → ⊥)
 by_test true P d = d.0 refl
 by_test false P d = λ p. false≢true (d.1 p)
 
+-- two vectors agree in an output as their first bytes do
 pub vectors_agree : (s t : Machine) (n w : ℕ) (x y : List ℕ) (r : Bool) → slice_get s.vecs n ≡ Some x → slice_get t.vecs n ≡ Some y
     → r ≡ pointwise eqb (take (w / 8) x) (take (w / 8) y) → MatchBool r (Agree s t (Vec n w)) (Agree s t (Vec n w) → ⊥)
 vectors_agree s t n w x y r here there e =
@@ -155,6 +156,7 @@ no_earlier_byte scratch s t a b f g h = f.other.differ (g.first a h f.other.comp
 same_number : (a b : ℕ) → (a < b → ⊥) → (b < a → ⊥) → a ≡ b
 same_number a b f g = omega arith
 
+-- two states have one first difference
 pub one_first : (live : List Output) (scratch : List (ℕ × ℕ)) (s t : Machine) (d e : Difference)
     → IsFirstDifference live scratch s t d → IsFirstDifference live scratch s t e → d ≡ e
 one_first live scratch s t (Out j) (Out k) f g = ap Out (same_number j k (no_earlier_output live s t j k f g) (no_earlier_output live s t k j g f))

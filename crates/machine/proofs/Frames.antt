@@ -1,7 +1,8 @@
 -- What a step leaves as it was, and what a run does.
-use Rattle.std.proofs.Common.{◌≡◌, ◌⊎◌, inl, inr, ℕ, ◌+◌, ◌-◌, ◌/◌, ◌%◌, ◌^◌, ◌<◌, ◌≤◌, Bool, true, false, not, ◌&&◌, ◌||◌, nat_lt, List, [], ◌∷◌, slice_get, slice_index, Option, None, Some, if◌then◌else◌, refl, sym, ◌∙◌, subst, arith}
+use Rattle.std.proofs.Common.{◌≡◌, ◌⊎◌, inl, inr, ℕ, ◌+◌, ◌-◌, ◌/◌, ◌%◌, ◌^◌, ◌<◌, ◌≤◌, Bool, true, false, not, ◌&&◌, ◌||◌, nat_lt, List, [], ◌∷◌, slice_index, Option, refl, sym, ◌∙◌, ap, subst, arith}
 use Rattle.std.specs.List.{list_all, list_any}
-use Rattle.std.proofs.lemmas.Bool.{and_from, and_parts, lt-ltb, ltb-false, ltb-true, not-true, or_cases, or_left, or_right}
+use Rattle.std.proofs.lemmas.Bool.{and_from, and_parts, cond_both, lt-ltb, ltb-false, ltb-true, not-true, or_cases, or_left, or_right}
+use Rattle.align_base.specs.declared.op.Flags.{Flags}
 use Rattle.align_base.specs.declared.op.Op.TheVariants as ops
 use Rattle.insn_table.specs.declared.insn.Insn.{Insn}
 use Rattle.insn_table.specs.declared.insn.Operand.{Operand}
@@ -13,93 +14,71 @@ use Rattle.instruction_semantics.specs.Words.{bit}
 use Rattle.machine.specs.declared.operands.Family.{Family}
 use Rattle.machine.specs.declared.operands.Family.TheVariants.{Branch, Choice, Idle, Jump, Popping, Pushing, Return, Setting}
 use Rattle.machine.specs.Access.{Access, access_of, accesses, allows, allows_by, holds_access, is_allowed, is_on_stack, stack_pointer, writes}
-use Rattle.machine.specs.Family.{family_of, holds_of}
+use Rattle.machine.specs.Family.{family_of}
 use Rattle.machine.specs.Frame.{IsWritable, SameFrame, SameUnwritable, has_address, is_writable}
 use Rattle.machine.specs.Machine.{Machine, offset_from, stack_base}
 use Rattle.machine.specs.Memory.{with_word}
-use Rattle.machine.specs.Operands.{effective, operand, with_value}
-use Rattle.machine.specs.Run.{Step, Goes, Returns, Faults, MeetsUnset, run_of, tested}
-use Rattle.machine.specs.Runnable.{IsRegister}
-use Rattle.machine.specs.Step.{after_row, allows_at, at_place, changed, conditional, free_at, free_insn, goes, gone, leads_to, register_number, result_of, step_of, target_of}
+use Rattle.machine.specs.Operands.{effective_address, operand, with_value}
+use Rattle.runs.specs.Run.{Step, Goes, run_of}
+use Rattle.runs.proofs.Guarding.{guarded-goes}
+use Rattle.machine.specs.Runnable.{IsGeneralRegister}
+use Rattle.machine.specs.Step.{after_change, after_row, allows_at, allows_step, at_place, free_step, register_number, result_of, step_of, target_operand, with_result}
+use Rattle.machine.proofs.Families.{free-goes}
 use Rattle.machine.specs.declared.state.Region.{Region}
-use Rattle.machine.proofs.Runs.{run_keeps}
+use Rattle.runs.proofs.Runs.{run_keeps}
 use Rattle.machine.proofs.Writing.{row_allowed}
 use Rattle.machine.proofs.Closed.{lea_register}
 use Rattle.machine.proofs.MemoryWords.{with_word-if}
 
--- what holds of the next state, where there is one
-abbrev pub LeadsTo : {S : Type 0} → (S → Type 0) → Step S → Type 0
-LeadsTo P (Goes t) = P t
-LeadsTo P Returns = Unit {0}
-LeadsTo P Faults = Unit {0}
-LeadsTo P MeetsUnset = Unit {0}
-
-pub tested-leads : {S : Type 0} (P : S → Type 0) (holds : Bool) (p : Step S) → (holds ≡ true → LeadsTo P p) → LeadsTo P (tested holds p)
-tested-leads P true p h = h refl
-tested-leads P false (Goes t) h = tt
-tested-leads P false Returns h = tt
-tested-leads P false Faults h = tt
-tested-leads P false MeetsUnset h = tt
-
-conditional-leads : (P : Machine → Type 0) (o : Option Bool) (goes : Bool → Step Machine) → ((b : Bool) → LeadsTo P (goes b)) → LeadsTo P (conditional o goes)
-conditional-leads P None goes h = tt
-conditional-leads P (Some b) goes h = h b
-
-gone-leads : (P : Machine → Type 0) (next : Option ℕ) (t : Machine) → ((place : ℕ) → P (at_place t place)) → LeadsTo P (gone next t)
-gone-leads P None t h = tt
-gone-leads P (Some place) t h = h place
-
--- what holds of each changed state, at whatever place, holds of the next state
-pub free-leads : (P : Machine → Type 0) (pool : List ℕ) (i : Insn) (s : Machine)
-    → ((holds : Bool) (place : ℕ) → P (at_place (changed (family_of i.op) pool i s holds) place)) → LeadsTo P (free_insn pool i s)
-free-leads P pool i s h =
-    conditional-leads P (holds_of i.op s.flags) (goes (family_of i.op) pool i s)
-    (λ holds. gone-leads P (leads_to (family_of i.op) i s.place holds) (changed (family_of i.op) pool i s holds) (h holds))
-
 -- the frame
 
-write-frame : (w : ℕ) (s : Machine) (o : Operand) (word : ℕ) → SameFrame s (with_value w s o word)
-write-frame w s (Reg n width) word = record { entry = refl; regions = refl; stack = refl; vecs = refl }
-write-frame w s (Mem base index scale disp) word = record { entry = refl; regions = refl; stack = refl; vecs = refl }
-write-frame w s (Imm v) word = record { entry = refl; regions = refl; stack = refl; vecs = refl }
-write-frame w s (Vec n width) word = record { entry = refl; regions = refl; stack = refl; vecs = refl }
-write-frame w s (Pool n) word = record { entry = refl; regions = refl; stack = refl; vecs = refl }
-write-frame w s (Target n) word = record { entry = refl; regions = refl; stack = refl; vecs = refl }
-write-frame w s Nothing word = record { entry = refl; regions = refl; stack = refl; vecs = refl }
+-- registers, flags, memory and place are no part of the frame
+frame_with : {s : Machine} {regs : List ℕ} {flags : Flags} {memory : ℕ → ℕ} {place : ℕ}
+    → SameFrame s (record s { regs = regs; flags = flags; memory = memory; place = place })
+frame_with = record { entry = refl; regions = refl; stack = refl; vecs = refl }
 
-choice-frame : (b : Bool) (s t : Machine) → SameFrame s t → SameFrame s (if b then t else s)
-choice-frame true s t h = h
-choice-frame false s t h = record { entry = refl; regions = refl; stack = refl; vecs = refl }
+frame-joined : (s t u : Machine) → SameFrame s t → SameFrame t u → SameFrame s u
+frame-joined s t u f g = record {
+  entry = g.entry ∙ f.entry;
+  regions = g.regions ∙ f.regions;
+  stack = g.stack ∙ f.stack;
+  vecs = g.vecs ∙ f.vecs;
+}
+
+write-frame : (w : ℕ) (s : Machine) (o : Operand) (word : ℕ) → SameFrame s (with_value w s o word)
+write-frame w s (Reg n width) word = frame_with
+write-frame w s (Mem base index scale disp) word = frame_with
+write-frame w s _ word = frame_with
 
 row-frame : (pool : List ℕ) (i : Insn) (s : Machine) (cond : ℕ) → SameFrame s (after_row pool i s cond)
 row-frame pool i s cond =
-    let h = choice-frame (writes i.op) s (with_value i.w s (target_of i.op i) (result_of pool i s cond))
-    (write-frame i.w s (target_of i.op i) (result_of pool i s cond))
-    in
-    record { entry = h.entry; regions = h.regions; stack = h.stack; vecs = h.vecs }
+    frame-joined s (with_result pool i s cond) (after_row pool i s cond)
+    (cond_both (writes i.op) (with_value i.w s (target_operand i.op i) (result_of pool i s cond)) s (SameFrame s)
+    (λ writing. write-frame i.w s (target_operand i.op i) (result_of pool i s cond))
+    (λ reading. frame_with))
+    frame_with
 
-changed-frame : (kind : Family) (pool : List ℕ) (i : Insn) (s : Machine) (holds : Bool) → SameFrame s (changed kind pool i s holds)
-changed-frame Pushing pool i s holds = record { entry = refl; regions = refl; stack = refl; vecs = refl }
-changed-frame Popping pool i s holds = record { entry = refl; regions = refl; stack = refl; vecs = refl }
-changed-frame Branch pool i s holds = record { entry = refl; regions = refl; stack = refl; vecs = refl }
-changed-frame Jump pool i s holds = record { entry = refl; regions = refl; stack = refl; vecs = refl }
-changed-frame Return pool i s holds = record { entry = refl; regions = refl; stack = refl; vecs = refl }
-changed-frame Idle pool i s holds = record { entry = refl; regions = refl; stack = refl; vecs = refl }
-changed-frame Choice pool i s holds = row-frame pool i s (bit holds)
-changed-frame Setting pool i s holds = row-frame pool i s (bit holds)
-changed-frame _ pool i s holds = row-frame pool i s 0
+change-frame : (kind : Family) (pool : List ℕ) (i : Insn) (s : Machine) (holds : Bool) → SameFrame s (after_change kind pool i s holds)
+change-frame Pushing pool i s holds = frame_with
+change-frame Popping pool i s holds = frame_with
+change-frame Branch pool i s holds = frame_with
+change-frame Jump pool i s holds = frame_with
+change-frame Return pool i s holds = frame_with
+change-frame Idle pool i s holds = frame_with
+change-frame Choice pool i s holds = row-frame pool i s (bit holds)
+change-frame Setting pool i s holds = row-frame pool i s (bit holds)
+change-frame _ pool i s holds = row-frame pool i s 0
 
-free-frame : (pool : List ℕ) (i : Insn) (s : Machine) → LeadsTo (SameFrame s) (free_insn pool i s)
-free-frame pool i s = free-leads (SameFrame s) pool i s
-    (λ holds place. let h = changed-frame (family_of i.op) pool i s holds in record { entry = h.entry; regions = h.regions; stack = h.stack; vecs = h.vecs })
+-- A free step changes registers, flags, memory and place alone,
+pub free_frame : (insns : List Insn) (pool : List ℕ) (s t : Machine) → free_step insns pool s ≡ Goes t → SameFrame s t
+free_frame insns pool s t h =
+    let by = free-goes insns pool s t h in
+    let after = after_change (family_of by.insn.op) pool by.insn s by.holds in
+    subst (SameFrame s) by.is (frame-joined s after (at_place after by.place) (change-frame (family_of by.insn.op) pool by.insn s by.holds) frame_with)
 
-at-frame : (pool : List ℕ) (o : Option Insn) (s : Machine) → LeadsTo (SameFrame s) (tested (allows_at o s) (free_at pool o s))
-at-frame pool None s = tt
-at-frame pool (Some i) s = tested-leads (SameFrame s) (allows i s) (free_insn pool i s) (λ holds. free-frame pool i s)
-
--- A step changes registers, flags, memory and place alone.
+-- and so does a step.
 pub step_frame : (insns : List Insn) (pool : List ℕ) (s t : Machine) → step_of insns pool s ≡ Goes t → SameFrame s t
-step_frame insns pool s t h = subst (LeadsTo (SameFrame s)) h (at-frame pool (slice_get insns s.place) s)
+step_frame insns pool s t h = free_frame insns pool s t (guarded-goes (allows_step insns) (free_step insns pool) s t h).1
 
 -- the memory
 
@@ -136,20 +115,19 @@ region-writable (r ∷ rs) at n x below h k =
           or_right (r.write && has_address x r) (list_any (λ q. q.write && has_address x q) rs) (region-writable rs at n x below there k)
     ]
 
-byte-kept : (b : Bool) (new old : ℕ) (P : Type 0) → (b ≡ true → P) → ((if b then new else old) ≡ old) ⊎ P
-byte-kept true new old P h = inr (h refl)
-byte-kept false new old P h = inl refl
-
 -- a word that is written where each of its bytes may be written
 word-kept : (s : Machine) (at n word x : ℕ) → (nat_lt (offset_from at x) n ≡ true → IsWritable s x)
     → (with_word s.memory at n word x ≡ s.memory x) ⊎ IsWritable s x
 word-kept s at n word x h =
-    rw (with_word-if s.memory at n word x) (byte-kept (nat_lt (offset_from at x) n) (word / 256 ^ offset_from at x % 256) (s.memory x) (IsWritable s x) h)
+    rw (with_word-if s.memory at n word x)
+    (cond_both (nat_lt (offset_from at x) n) (word / 256 ^ offset_from at x % 256) (s.memory x) (λ (b : ℕ). (b ≡ s.memory x) ⊎ IsWritable s x)
+    (λ near. inr (h near))
+    (λ far. inl refl))
 
 -- a write whose access is allowed
 write-kept : (w : ℕ) (s : Machine) (o : Operand) (word : ℕ) → list_all (is_allowed s) (access_of s o w true) ≡ true → SameUnwritable s (with_value w s o word)
 write-kept w s (Mem base index scale disp) word h = λ x.
-    let at = effective s.regs base index scale disp in
+    let at = effective_address s.regs base index scale disp in
     let below : at ≤ 2 ^ 64 = omega arith in
     let holds = (and_parts (is_allowed s (written_from at (w / 8))) true h).0 in
     word-kept s at (w / 8) word x
@@ -165,24 +143,21 @@ write-kept w s Nothing word h = λ x. inl refl
 
 -- What an instruction writes is tested: `lea` makes no access, so its target is no memory.
 abbrev IsTested : Insn → Type 0
-IsTested i = i.op ≡ ops.Lea → is_addressed (target_of ops.Lea i) ≡ false
+IsTested i = i.op ≡ ops.Lea → is_addressed (target_operand ops.Lea i) ≡ false
 
-register-not_addressed : (o : Operand) → IsRegister o → is_addressed o ≡ false
+register-not_addressed : (o : Operand) → IsGeneralRegister o → is_addressed o ≡ false
 register-not_addressed (Reg n w) is = refl
 register-not_addressed _ is = absurd is
 
 table-tested : (i : Insn) → IsTableInsn i → IsTested i
-table-tested i t e = register-not_addressed (target_of ops.Lea i) (lea_register i t e)
-
-choice-kept : (b : Bool) (s t : Machine) → (b ≡ true → SameUnwritable s t) → SameUnwritable s (if b then t else s)
-choice-kept true s t h = h refl
-choice-kept false s t h = λ x. inl refl
+table-tested i t e = register-not_addressed (target_operand ops.Lea i) (lea_register i t e)
 
 row-kept : (pool : List ℕ) (i : Insn) (s : Machine) (cond : ℕ) → IsTested i → list_all (is_allowed s) (accesses (family_of i.op) i s) ≡ true
     → SameUnwritable s (after_row pool i s cond)
 row-kept pool i s cond lea h =
-    choice-kept (writes i.op) s (with_value i.w s (target_of i.op i) (result_of pool i s cond))
-    (λ writing. write-kept i.w s (target_of i.op i) (result_of pool i s cond) (row_allowed i.op i s writing lea h))
+    cond_both (writes i.op) (with_value i.w s (target_operand i.op i) (result_of pool i s cond)) s (SameUnwritable s)
+    (λ writing. write-kept i.w s (target_operand i.op i) (result_of pool i s cond) (row_allowed i.op i s writing lea h))
+    (λ reading x. inl refl)
 
 push-kept : (s : Machine) (word : ℕ) → is_on_stack s (offset_from 8 (stack_pointer s)) ≡ true
     → (x : ℕ) → (with_word s.memory (offset_from 8 (stack_pointer s)) 8 word x ≡ s.memory x) ⊎ IsWritable s x
@@ -195,7 +170,7 @@ push-kept s word h x =
     (tests-inside (2 ^ 64 - stack_base s) at 8 s.stack x below h k))
 
 changed-kept : (kind : Family) (pool : List ℕ) (i : Insn) (s : Machine) (holds : Bool) → family_of i.op ≡ kind → IsTested i → allows_by kind i s ≡ true
-    → SameUnwritable s (changed kind pool i s holds)
+    → SameUnwritable s (after_change kind pool i s holds)
 changed-kept Pushing pool i s holds f lea h = push-kept s (slice_index s.regs (register_number (operand i 0))) h
 changed-kept Popping pool i s holds f lea h = λ x. inl refl
 changed-kept Branch pool i s holds f lea h = λ x. inl refl
@@ -206,27 +181,21 @@ changed-kept Choice pool i s holds f lea h = row-kept pool i s (bit holds) lea (
 changed-kept Setting pool i s holds f lea h = row-kept pool i s (bit holds) lea (rw f h)
 changed-kept _ pool i s holds f lea h = row-kept pool i s 0 lea (rw f h)
 
-at-kept : (pool : List ℕ) (o : Option Insn) (s : Machine) → ((i : Insn) → o ≡ Some i → IsTested i)
-    → LeadsTo (SameUnwritable s) (tested (allows_at o s) (free_at pool o s))
-at-kept pool None s each = tt
-at-kept pool (Some i) s each =
-    tested-leads (SameUnwritable s) (allows i s) (free_insn pool i s)
-    (λ allowed. free-leads (SameUnwritable s) pool i s (λ holds place. changed-kept (family_of i.op) pool i s holds refl (each i refl) allowed))
+-- Where its tests hold, a free step writes no byte but in a region that may be written and among the declared stack bytes,
+pub free_memory : (insns : List Insn) (pool : List ℕ) (s t : Machine) → IsClosed insns → allows_step insns s ≡ true → free_step insns pool s ≡ Goes t
+    → SameUnwritable s t
+free_memory insns pool s t closed holds h =
+    let by = free-goes insns pool s t h in
+    let allowed : allows by.insn s ≡ true = ap (λ (o : Option Insn). allows_at o s) (sym by.there) ∙ holds in
+    subst (SameUnwritable s) by.is
+    (changed-kept (family_of by.insn.op) pool by.insn s by.holds refl (table-tested by.insn (closed.each s.place by.insn by.there)) allowed)
 
--- A step writes no byte but in a region that may be written and among the declared stack bytes.
+-- and so does a step.
 pub step_memory : (insns : List Insn) (pool : List ℕ) (s t : Machine) → IsClosed insns → step_of insns pool s ≡ Goes t → SameUnwritable s t
 step_memory insns pool s t closed h =
-    subst (LeadsTo (SameUnwritable s)) h (at-kept pool (slice_get insns s.place) s (λ i e. table-tested i (closed.each s.place i e)))
+    let goes = guarded-goes (allows_step insns) (free_step insns pool) s t h in free_memory insns pool s t closed goes.0 goes.1
 
 -- runs
-
-frame-joined : (s t u : Machine) → SameFrame s t → SameFrame t u → SameFrame s u
-frame-joined s t u f g = record {
-  entry = g.entry ∙ f.entry;
-  regions = g.regions ∙ f.regions;
-  stack = g.stack ∙ f.stack;
-  vecs = g.vecs ∙ f.vecs;
-}
 
 -- what may be written is the same where the frame is
 pub same_writable : (s t : Machine) → SameFrame s t → (x : ℕ) → is_writable t x ≡ is_writable s x
@@ -241,19 +210,24 @@ memory-joined s t u f g h x =
       | inr writable ↦ inr (sym (same_writable s t f x) ∙ writable)
     ]
 
+-- what each step keeps of the frame, a run keeps
+runs_keep_frame : (step : Machine → Step Machine) → ((s t : Machine) → step s ≡ Goes t → SameFrame s t) → (s : Machine) (n : ℕ)
+    → SameFrame s (run_of step s n).0
+runs_keep_frame step each s n = run_keeps step SameFrame (λ t. frame_with) frame-joined each s n
+
 -- A run leaves the frame as it was,
 pub run_frame : (insns : List Insn) (pool : List ℕ) (s : Machine) (n : ℕ) → SameFrame s (run_of (step_of insns pool) s n).0
-run_frame insns pool s n =
-    run_keeps (step_of insns pool) SameFrame (λ t. record { entry = refl; regions = refl; stack = refl; vecs = refl }) frame-joined
-    (λ t u h. step_frame insns pool t u h)
-    s
-    n
+run_frame insns pool = runs_keep_frame (step_of insns pool) (step_frame insns pool)
 
--- and each byte that may not be written.
+-- and so does a free run.
+pub free_run_frame : (insns : List Insn) (pool : List ℕ) (s : Machine) (n : ℕ) → SameFrame s (run_of (free_step insns pool) s n).0
+free_run_frame insns pool = runs_keep_frame (free_step insns pool) (free_frame insns pool)
+
+-- A run leaves each byte that may not be written.
 pub run_memory : (insns : List Insn) (pool : List ℕ) → IsClosed insns → (s : Machine) (n : ℕ) → SameUnwritable s (run_of (step_of insns pool) s n).0
 run_memory insns pool closed s n =
     (run_keeps (step_of insns pool) (λ t u. SameFrame t u × SameUnwritable t u)
-    (λ t. (record { entry = refl; regions = refl; stack = refl; vecs = refl }, λ x. inl refl))
+    (λ t. (frame_with, λ x. inl refl))
     (λ t u v f g. (frame-joined t u v f.0 g.0, memory-joined t u v f.0 f.1 g.1))
     (λ t u h. (step_frame insns pool t u h, step_memory insns pool t u closed h))
     s

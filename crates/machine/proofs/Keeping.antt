@@ -11,8 +11,9 @@ use Rattle.insn_table.specs.declared.insn.Insn.{Insn}
 use Rattle.insn_table.specs.Plain.{IsMoveOf, IsPlainMove, IsRegister, IsSignedWord, IsSource}
 use Rattle.machine.specs.Machine.{AreRegs}
 use Rattle.machine.specs.Operands.{operand}
-use Rattle.machine.specs.Straight.{computed, regs_after, regs_through, value_at, written}
+use Rattle.machine.specs.Straight.{plain_result, regs_after, regs_through, value_at, regs_with}
 
+-- an immediate is below 2^64
 pub signed-below : (v : ℕ) → IsSignedWord v → v < 2 ^ 64
 signed-below v (inl small) = omega arith
 signed-below v (inr large) = large.1
@@ -26,16 +27,17 @@ value-below (Pool n) regs is all = absurd is
 value-below (Target n) regs is all = absurd is
 value-below Nothing regs is all = absurd is
 
-computed-below : (o : Op) (old value : ℕ) → old < 2 ^ 64 → value < 2 ^ 64 → computed o old value < 2 ^ 64
+computed-below : (o : Op) (old value : ℕ) → old < 2 ^ 64 → value < 2 ^ 64 → plain_result o old value < 2 ^ 64
 computed-below Mov old value h k = k
 computed-below Add old value h k = omega arith
 computed-below Sub old value h k = omega arith
 computed-below _ old value h k = h
 
+-- a list of numbers below 2^64 with one more written stays below
 pub set-below : (regs : List ℕ) (r v n : ℕ) → r < length regs → v < 2 ^ 64 → slice_index regs n < 2 ^ 64 → slice_index (slice_set regs r v) n < 2 ^ 64
 set-below regs r v n within small h = grind (arith, common_steps)
 
-written-regs : (o : Operand) (regs : List ℕ) (v : ℕ) → IsRegister o → AreRegs regs → v < 2 ^ 64 → AreRegs (written regs o v)
+written-regs : (o : Operand) (regs : List ℕ) (v : ℕ) → IsRegister o → AreRegs regs → v < 2 ^ 64 → AreRegs (regs_with regs o v)
 written-regs (Reg r w) regs v is all small = record {
   sixteen = simp length-set all.sixteen;
   below = λ n. set-below regs r v n (omega (arith, all.sixteen, is.0)) small (all.below n);
@@ -57,6 +59,7 @@ source_too (Pool n) is = absurd is
 source_too (Target n) is = absurd is
 source_too Nothing is = absurd is
 
+-- a plain move keeps registers of 64 bits
 pub move_keeps_regs : (i : Insn) (source target : Operand) (regs : List ℕ) → IsMoveOf i source target → AreRegs regs → AreRegs (regs_after i regs)
 move_keeps_regs i source target regs m all =
     let first : source ≡ operand i 0 = λ j. unwrap_or (slice_get (sym m.args j) 0) Nothing in
@@ -66,6 +69,7 @@ move_keeps_regs i source target regs m all =
     written-regs (operand i 1) regs _ writes all
     (computed-below i.op _ _ (value-below (operand i 1) regs (source_too (operand i 1) writes) all) (value-below (operand i 0) regs reads all))
 
+-- plain moves keep registers of 64 bits
 pub moves_keep_regs : (moves : List Insn) (regs : List ℕ) → AllByRecursion IsPlainMove moves → AreRegs regs → AreRegs (regs_through moves regs)
 moves_keep_regs [] regs each all = all
 moves_keep_regs (i ∷ is) regs each all =

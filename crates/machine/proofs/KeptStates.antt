@@ -23,6 +23,7 @@ all_regions : (P Q : Region → Type 0) (rs : List Region) → ((r : Region) →
 all_regions P Q [] h a = tt
 all_regions P Q (r ∷ rs) h a = (h r a.0, all_regions P Q rs h a.1)
 
+-- a kept state stays one where the places of its spans and all else that it speaks of stay
 pub kept_by_places : (old new : Kept) → new.entry ≡ old.entry → new.stack ≡ old.stack → new.regions ≡ old.regions
     → places new.spans ≡ places old.spans → IsKept old → IsKept new
 kept_by_places old new entry stack regions spans h = record {
@@ -52,6 +53,7 @@ first_content a b more rest e = cc
 more_contents : (a b : ℕ × List ℕ) (more rest : List (ℕ × List ℕ)) → a ∷ more ≡ b ∷ rest → more ≡ rest
 more_contents a b more rest e = cc
 
+-- spans of the same contents stand at the same places
 pub places_by_contents : (old new : List Span) → contents new ≡ contents old → places new ≡ places old
 places_by_contents [] [] e = refl
 places_by_contents [] (n ∷ ns) e = cc
@@ -61,6 +63,7 @@ places_by_contents (s ∷ ss) (n ∷ ns) e =
     let more = more_contents (n.at, n.bytes.items) (s.at, s.bytes.items) (contents ns) (contents ss) e in
     λ i. ((first i).0, length (first i).1) ∷ places_by_contents ss ns more i
 
+-- spans of the same contents have the same bytes
 pub byte_by_contents : (old new : List Span) (x : ℕ) → contents new ≡ contents old → byte_of new x ≡ byte_of old x
 byte_by_contents [] [] x e = refl
 byte_by_contents [] (n ∷ ns) x e = cc
@@ -72,6 +75,7 @@ byte_by_contents (s ∷ ss) (n ∷ ns) x e =
     let bytes : n.bytes.items ≡ s.bytes.items = ap (λ (p : ℕ × List ℕ). p.1) first in
     rw (at, bytes, byte_by_contents ss ns x more) refl
 
+-- a state with spans of the same contents is a copy
 pub copy_of : (k : Kept) (spans : List Span) (regions : List Region) → contents spans ≡ contents k.spans → regions ≡ k.regions
     → IsCopy k (record k { spans = spans; regions = regions })
 copy_of k spans regions same kept = record {

@@ -10,13 +10,9 @@ pub mod KeptStates
 pub mod MemoryWords
 pub mod Moves
 pub mod Ordering
-pub mod Paths
 pub mod PlainLaws
 pub mod PlainRuns
-pub mod Returning
 pub mod RowValues
-pub mod RunEnds
-pub mod Runs
 pub mod Closed
 pub mod StateRanges
 pub mod Targets

@@ -9,6 +9,7 @@ use Rattle.machine.specs.Memory.{bytes_at, bytes_of_number, number_of_bytes, wit
 
 -- reads
 
+-- n bytes are read
 pub length-bytes_at : (m : ℕ → ℕ) (at n : ℕ) → length (bytes_at m at n) ≡ n
 length-bytes_at m at zero = refl
 length-bytes_at m at (suc n) =
@@ -22,6 +23,7 @@ number_more [] b = omega arith
 number_more (a ∷ bytes) b =
     rw (number_more bytes b, pow-suc 256 (length bytes)) (next_number a b (number_of_bytes bytes) (256 ^ length bytes))
 
+-- a word of one more byte
 pub word_at-suc : (m : ℕ → ℕ) (at n : ℕ) → word_at m at (suc n) ≡ word_at m at n + m (address_plus at n) * 256 ^ n
 word_at-suc m at n =
     number_more (bytes_at m at n) (m (address_plus at n))
@@ -33,6 +35,7 @@ word_at-more m at n = ap (word_at m at) (add-one n) ∙ word_at-suc m at n
 
 -- writes
 
+-- n bytes of a number
 pub length-bytes_of_number : (n word : ℕ) → length (bytes_of_number n word) ≡ n
 length-bytes_of_number zero word = refl
 length-bytes_of_number (suc n) word = ap suc (length-bytes_of_number n (word / 256))
@@ -53,6 +56,7 @@ get_or-bytes_of_number n word k d =
     let past = λ (h : n ≤ k). get_or_past (bytes_of_number n word) k d (rw (length-bytes_of_number n word) h) in
     chosen k n (get_or (bytes_of_number n word) k d) (word / 256 ^ k % 256) d (byte_of_number n word k d) past
 
+-- each byte after a write of a word
 pub with_word-if : (m : ℕ → ℕ) (at n word x : ℕ)
     → with_word m at n word x ≡ (if nat_lt (offset_from at x) n then word / 256 ^ offset_from at x % 256 else m x)
 with_word-if m at n word x = get_or-bytes_of_number n word (offset_from at x) (m x)

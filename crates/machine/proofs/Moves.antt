@@ -10,7 +10,7 @@ use Rattle.insn_table.specs.declared.insn.Operand.TheVariants.{Reg, Imm, Mem, Ve
 use Rattle.insn_table.specs.Plain.{IsMoveOp, IsPlainMove, IsRegister, IsSource}
 use Rattle.instruction_semantics.specs.FlagRules.{flags_after}
 use Rattle.machine.specs.Machine.{AreRegs, Machine}
-use Rattle.machine.specs.Run.{Step, Goes}
+use Rattle.runs.specs.Run.{Step, Goes}
 use Rattle.machine.specs.Step.{destination_value, insn_step, source_value, step_of}
 use Rattle.machine.specs.Straight.{regs_after}
 use Rattle.machine.proofs.Families.{step_at}

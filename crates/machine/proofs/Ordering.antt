@@ -6,15 +6,19 @@ use Rattle.machine.specs.declared.state.Span.{Span}
 use Rattle.machine.specs.Kept.{AreOrdered, byte_of, is_spanned, spans_address}
 use Rattle.machine.specs.Spans.{places}
 
+-- an address from the begin of a span to its end lies in it
 pub addressed : (span : Span) (x : ℕ) → span.at ≤ x → x < span.at + length span.bytes.items → spans_address span x ≡ true
 addressed span x from to = grind (arith, common_steps)
 
+-- an address past the end of a span does not lie in it
 pub not_addressed : (span : Span) (x : ℕ) → span.at + length span.bytes.items ≤ x → spans_address span x ≡ false
 not_addressed span x h = grind (arith, common_steps)
 
+-- an address in a span lies from its begin to its end
 pub addressed_from : (span : Span) (x : ℕ) → spans_address span x ≡ true → (span.at ≤ x) × (x < span.at + length span.bytes.items)
 addressed_from span x h = grind (arith, common_steps)
 
+-- an address that does not lie in a span lies before or past it
 pub not_addressed_from : (span : Span) (x : ℕ) → spans_address span x ≡ false → (x < span.at) ⊎ (span.at + length span.bytes.items ≤ x)
 not_addressed_from span x h = grind (arith, nat_tests)
 
@@ -71,6 +75,7 @@ byte_written from (s ∷ ss) (suc i) span new x o e at len =
       | false ↦ (λ f. refl)
     ] refl))
 
+-- a span of the same place and length in place of another leaves the places
 pub places_written : (spans : List Span) (i : ℕ) (span new : Span) → slice_get spans i ≡ Some span
     → new.at ≡ span.at → length new.bytes.items ≡ length span.bytes.items → places (slice_set spans i new) ≡ places spans
 places_written [] i span new e at len = refl
@@ -95,6 +100,7 @@ ordered_by_places from (s ∷ ss) (n ∷ ns) e o =
     let len : length n.bytes.items ≡ length s.bytes.items = ap (λ (p : ℕ × ℕ). p.1) head in
     rw (at, len) (o.0, o.1, ordered_by_places (s.at + length s.bytes.items) ss ns rest o.2)
 
+-- spans at the same places have the same addresses
 pub spanned_by_places : (old new : List Span) (x : ℕ) → places new ≡ places old → is_spanned new x ≡ is_spanned old x
 spanned_by_places [] [] x e = refl
 spanned_by_places [] (n ∷ ns) x e = cc

@@ -6,37 +6,42 @@ use Rattle.align_base.specs.declared.output.Output.TheVariants.{Reg}
 use Rattle.insn_table.specs.declared.insn.Insn.{Insn}
 use Rattle.insn_table.specs.Plain.{IsPlain}
 use Rattle.machine.specs.Difference.{Agree, SamePlainEnd}
-use Rattle.machine.specs.Equivalent.{AreEquivalent}
+use Rattle.runs.specs.Equivalent.{AreEquivalent}
 use Rattle.machine.specs.Machine.{AreRegs, Machine, IsPlainStart, rax}
-use Rattle.machine.specs.Run.{run_of, end_of}
+use Rattle.runs.specs.Run.{run_of, end_of}
 use Rattle.machine.specs.Step.{step_of}
 use Rattle.machine.specs.Straight.{regs_through, OnlyReturns}
-use Rattle.machine.specs.declared.state.RunEnd.TheVariants.{Returned, Faulted, Unset}
+use Rattle.runs.specs.declared.ends.RunEnd.TheVariants.{Returned, Faulted, Unset}
 use Rattle.machine.proofs.Keeping.{moves_keep_regs}
 use Rattle.machine.proofs.PlainRuns.{plain-returns, state_through, through_frame, through-memory, through-regs}
-use Rattle.machine.proofs.Returning.{returned_only, never_faulted, never_unset, returning_equivalent}
+use Rattle.runs.proofs.Returning.{returned_only, never_faulted, never_unset, returning_equivalent}
 
 -- the end of a plain function from a start state
 abbrev pub plain_end : {insns : List Insn} → List ℕ → IsPlain insns → Machine → Machine
 plain_end pool p s = state_through pool p.moves s
 
+-- the registers at the end of a plain function
 pub plain_end-regs : {insns : List Insn} (pool : List ℕ) (p : IsPlain insns) (s : Machine) → (plain_end pool p s).regs ≡ regs_through p.moves s.regs
 plain_end-regs pool p s = through-regs pool p.moves s
 
+-- a plain function returns at its last instruction
 pub plain_ends : (insns : List Insn) (pool : List ℕ) (p : IsPlain insns) (s : Machine) → IsPlainStart s
     → run_of (step_of insns pool) s (length insns) ≡ (plain_end pool p s, Returned (length insns))
 plain_ends insns pool p s start = plain-returns insns pool p.moves p.last s p.whole p.each p.returns start
 
+-- a plain function never faults
 pub plain_never_faults : (insns : List Insn) (pool : List ℕ) → IsPlain insns → (s : Machine) → IsPlainStart s → (n i : ℕ)
     → end_of (step_of insns pool) s n ≢ Faulted i
 plain_never_faults insns pool p s start n i h =
     never_faulted (step_of insns pool) s (plain_end pool p s) (length insns) (length insns) (plain_ends insns pool p s start) n i h
 
+-- a plain function meets no unset flag
 pub plain_never_unset : (insns : List Insn) (pool : List ℕ) → IsPlain insns → (s : Machine) → IsPlainStart s → (n i : ℕ)
     → end_of (step_of insns pool) s n ≢ Unset i
 plain_never_unset insns pool p s start n i h =
     never_unset (step_of insns pool) s (plain_end pool p s) (length insns) (length insns) (plain_ends insns pool p s start) n i h
 
+-- a plain function has one return
 pub plain-returns_only : (insns : List Insn) (pool : List ℕ) (p : IsPlain insns) (s : Machine) → IsPlainStart s → (n i : ℕ)
     → end_of (step_of insns pool) s n ≡ Returned i
     → ((run_of (step_of insns pool) s n).0 ≡ plain_end pool p s) × (i ≡ length insns)
@@ -54,6 +59,7 @@ same_plain_end s t same memory = record {
   memory = λ at compared. ap (λ (m : ℕ → ℕ). m at) memory;
 }
 
+-- two plain functions whose moves leave the same in %rax are equivalent
 pub plain-equivalent : (f g : List Insn) (pool_f pool_g : List ℕ) (p : IsPlain f) (q : IsPlain g)
     → ((s : Machine) → IsPlainStart s → slice_index (regs_through p.moves s.regs) 0 ≡ slice_index (regs_through q.moves s.regs) 0)
     → AreEquivalent IsPlainStart SamePlainEnd (2 * max (length f) (length g)) (step_of f pool_f) (step_of g pool_g)
@@ -78,6 +84,7 @@ plain_moves insns p =
     sym (ap (λ (xs : List Insn). take (length insns - 1) xs) p.whole ∙ ap (λ (n : ℕ). take n (p.moves ++ p.last ∷ [])) count
     ∙ take-append_seam p.moves (p.last ∷ []))
 
+-- a plain function returns, and ends in no other way
 pub plain-only_returns : (insns : List Insn) (pool : List ℕ) → IsPlain insns → (s : Machine) → IsPlainStart s → OnlyReturns insns pool s
 plain-only_returns insns pool p s start = record {
   end = plain_end pool p s;

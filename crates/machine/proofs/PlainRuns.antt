@@ -12,16 +12,16 @@ use Rattle.machine.specs.Family.{family_of, holds_of}
 use Rattle.machine.specs.Frame.{SameFrame}
 use Rattle.machine.specs.Machine.{AreRegs, IsPlainStart, Machine, entry_pointer}
 use Rattle.machine.specs.Operands.{operand}
-use Rattle.machine.specs.Run.{Goes, Returns, run_of, tested}
-use Rattle.machine.specs.Step.{conditional, goes, step_of}
-use Rattle.machine.specs.Straight.{computed, regs_after, regs_through, value_at, written}
-use Rattle.machine.specs.declared.state.RunEnd.TheVariants.{Returned, Running}
+use Rattle.runs.specs.Run.{Goes, Returns, run_of, tested}
+use Rattle.machine.specs.Step.{step_where_known, goes, step_of}
+use Rattle.machine.specs.Straight.{plain_result, regs_after, regs_through, value_at, regs_with}
+use Rattle.runs.specs.declared.ends.RunEnd.TheVariants.{Returned, Running}
 use Rattle.machine.proofs.Keeping.{move_keeps_regs}
 use Rattle.machine.proofs.Families.{step_at}
 use Rattle.machine.proofs.Moves.{moved, step_moves}
-use Rattle.machine.proofs.Runs.{one_more}
+use Rattle.runs.proofs.Runs.{one_more}
 
-free-kept : (o : Operand) (regs : List ℕ) (v : ℕ) → IsRegister o → IsFree o → slice_index (written regs o v) 4 ≡ slice_index regs 4
+free-kept : (o : Operand) (regs : List ℕ) (v : ℕ) → IsRegister o → IsFree o → slice_index (regs_with regs o v) 4 ≡ slice_index regs 4
 free-kept (Reg n w) regs v is free = get_or-set_other regs n 4 v 0 (λ e. free (sym e))
 free-kept (Imm a) regs v is free = absurd is
 free-kept (Mem base index scale disp) regs v is free = absurd is
@@ -33,9 +33,9 @@ free-kept Nothing regs v is free = absurd is
 -- a plain move leaves the stack pointer alone
 pub move_keeps : (i : Insn) (regs : List ℕ) → IsPlainMove i → slice_index (regs_after i regs) 4 ≡ slice_index regs 4
 move_keeps i regs m =
-    let v = computed i.op (value_at regs (operand i 1)) (value_at regs (operand i 0)) in
+    let v = plain_result i.op (value_at regs (operand i 1)) (value_at regs (operand i 0)) in
     let target : operand i 1 ≡ m.target = ap (λ (args : List Operand). unwrap_or (slice_get args 1) Nothing) m.move.args in
-    ap (λ (o : Operand). slice_index (written regs o v) 4) target ∙ free-kept m.target regs v m.move.writes m.target_free
+    ap (λ (o : Operand). slice_index (regs_with regs o v) 4) target ∙ free-kept m.target regs v m.move.writes m.target_free
 
 -- and so do many
 pub moves_keep : (moves : List Insn) (regs : List ℕ) → AllByRecursion IsPlainMove moves → slice_index (regs_through moves regs) 4 ≡ slice_index regs 4
@@ -54,14 +54,17 @@ abbrev pub state_through : List ℕ → List Insn → Machine → Machine
 state_through pool [] s = s
 state_through pool (i ∷ is) s = state_through pool is (moved pool i s)
 
+-- the registers after plain moves
 pub through-regs : (pool : List ℕ) (moves : List Insn) (s : Machine) → (state_through pool moves s).regs ≡ regs_through moves s.regs
 through-regs pool [] s = refl
 through-regs pool (i ∷ is) s = through-regs pool is (moved pool i s)
 
+-- plain moves leave the memory
 pub through-memory : (pool : List ℕ) (moves : List Insn) (s : Machine) → (state_through pool moves s).memory ≡ s.memory
 through-memory pool [] s = refl
 through-memory pool (i ∷ is) s = through-memory pool is (moved pool i s)
 
+-- plain moves leave the frame
 pub through_frame : (pool : List ℕ) (moves : List Insn) (s : Machine) → SameFrame s (state_through pool moves s)
 through_frame pool [] s = record { entry = refl; regions = refl; stack = refl; vecs = refl }
 through_frame pool (i ∷ is) s =
@@ -94,7 +97,7 @@ returns_at : (insns : List Insn) (pool : List ℕ) (t : Machine) (last : Insn) �
     → stack_pointer t ≡ entry_pointer t → step_of insns pool t ≡ Returns
 returns_at insns pool t last at op sp =
     step_at insns pool t last at
-    ∙ ap (λ (o : Op). tested (allows_by (family_of o) last t) (conditional (holds_of o t.flags) (goes (family_of o) pool last t))) op
+    ∙ ap (λ (o : Op). tested (allows_by (family_of o) last t) (step_where_known (holds_of o t.flags) (goes (family_of o) pool last t))) op
     ∙ ap (λ (b : Bool). tested b Returns) (eq-eqb (stack_pointer t) (entry_pointer t) sp)
 
 -- A plain function returns at its last instruction, in the state after its moves.

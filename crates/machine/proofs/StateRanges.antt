@@ -1,7 +1,8 @@
 -- A step keeps each value of a state in its range.
-use Rattle.std.proofs.Common.{◌≡◌, ℕ, zero, suc, ◌/◌, ◌%◌, ◌^◌, ◌<◌, nat_lt, Bool, true, false, inl, inr, List, length, Option, None, Some, slice_get, slice_index, slice_set, refl, sym, ◌∙◌, subst, if◌then◌else◌, arith, lit<}
+use Rattle.std.proofs.Common.{◌≡◌, ℕ, zero, suc, ◌/◌, ◌%◌, ◌^◌, ◌<◌, nat_lt, Bool, true, false, inl, inr, List, length, slice_index, slice_set, refl, sym, ◌∙◌, subst, arith, lit<}
 use Rattle.std.proofs.Math.ListN.{length-set}
 use Rattle.std.proofs.Math.Nat.{pow-suc}
+use Rattle.std.proofs.lemmas.Bool.{cond_both}
 use Rattle.std.proofs.lemmas.Nat.{mod_below, pow_pos}
 use Rattle.align_base.specs.declared.op.Op.{Op}
 use Rattle.align_base.specs.declared.op.Op.TheVariants as ops
@@ -15,21 +16,21 @@ use Rattle.instruction_semantics.specs.Words.{bit}
 use Rattle.instruction_semantics.proofs.WordLaws.{computed_below}
 use Rattle.machine.specs.declared.operands.Family.{Family}
 use Rattle.machine.specs.declared.operands.Family.TheVariants.{Computing, Address, Choice, Setting, Branch, Jump, Pushing, Popping, Return, Idle}
-use Rattle.machine.specs.Access.{allows, source_width, stack_pointer, writes}
+use Rattle.machine.specs.Access.{source_width, stack_pointer, writes}
 use Rattle.machine.specs.Family.{family_of}
 use Rattle.machine.specs.Machine.{AreRegs, IsState, Machine, address_plus, offset_from}
 use Rattle.machine.specs.Memory.{with_word, word_at}
-use Rattle.machine.specs.Operands.{effective, merged, operand, value_of, with_value}
-use Rattle.machine.specs.Run.{Step, Goes, run_of, tested}
+use Rattle.machine.specs.Operands.{effective_address, register_after, operand, value_of, with_value}
+use Rattle.runs.specs.Run.{Step, Goes, run_of}
+use Rattle.runs.proofs.Guarding.{guarded-goes}
 use Rattle.machine.specs.Runnable.{IsRunnable, IsRunnableFunction, IsWidth}
-use Rattle.machine.specs.Step.{after_row, allows_at, changed, free_at, free_insn, insn_step, destination_of, destination_value, register_number, result_of, row_leaves, source_of, source_value, step_of, target_of}
+use Rattle.machine.specs.Step.{after_row, allows_step, after_change, free_step, destination_operand, destination_value, register_number, result_of, row_leaves, source_operand, source_value, step_of, target_operand}
 use Rattle.machine.proofs.Bytewise.{byte_in_front}
-use Rattle.machine.proofs.Families.{step_at}
-use Rattle.machine.proofs.Frames.{LeadsTo, free-leads, tested-leads}
+use Rattle.machine.proofs.Families.{free-goes}
 use Rattle.machine.proofs.Keeping.{set-below}
 use Rattle.machine.proofs.MemoryWords.{with_word-if, word_at-suc}
 use Rattle.machine.proofs.RowValues.{address_result, choice_result, choice_source, computes, row_computes, setting_result, source_is_width, source_read}
-use Rattle.machine.proofs.Runs.{run_keeps}
+use Rattle.runs.proofs.Runs.{run_keeps}
 use Rattle.machine.proofs.Targets.{target_numbers}
 
 -- each of a pool is a byte
@@ -52,8 +53,8 @@ value_below : (pool : List ℕ) (w : ℕ) (s : Machine) (o : Operand) → IsWidt
 value_below pool w s (Reg n width) h bytes state = mod_below (slice_index s.regs n) (2 ^ w) (pow_pos w)
 value_below pool w s (Imm v) h bytes state = mod_below v (2 ^ w) (pow_pos w)
 value_below pool w s (Mem base index scale disp) h bytes state =
-    subst (λ (p : ℕ). word_at s.memory (effective s.regs base index scale disp) (w / 8) < p) (bytes_of_width w h)
-    (word_below s.memory (effective s.regs base index scale disp) (w / 8) state.memory)
+    subst (λ (p : ℕ). word_at s.memory (effective_address s.regs base index scale disp) (w / 8) < p) (bytes_of_width w h)
+    (word_below s.memory (effective_address s.regs base index scale disp) (w / 8) state.memory)
 value_below pool w s (Pool n) h bytes state =
     subst (λ (p : ℕ). word_at (λ at. slice_index pool at) n (w / 8) < p) (bytes_of_width w h) (word_below (λ at. slice_index pool at) n (w / 8) bytes)
 value_below pool w s (Vec n width) h bytes state = pow_pos w
@@ -66,26 +67,25 @@ set_regs regs r v within small all = record {
   below = λ n. set-below regs r v n (omega (arith, all.sixteen)) small (all.below n);
 }
 
-merged_at : (w v old word : ℕ) → w ≡ v → (word < 2 ^ v → merged v old word < 2 ^ 64) → word < 2 ^ w → merged w old word < 2 ^ 64
-merged_at w v old word e h k = subst (λ (u : ℕ). word < 2 ^ u → merged u old word < 2 ^ 64) (sym e) h k
+merged_at : (w v old word : ℕ) → w ≡ v → (word < 2 ^ v → register_after v old word < 2 ^ 64) → word < 2 ^ w → register_after w old word < 2 ^ 64
+merged_at w v old word e h k = subst (λ (u : ℕ). word < 2 ^ u → register_after u old word < 2 ^ 64) (sym e) h k
 
-merged_below : (w old word : ℕ) → IsWidth w → old < 2 ^ 64 → word < 2 ^ w → merged w old word < 2 ^ 64
+merged_below : (w old word : ℕ) → IsWidth w → old < 2 ^ 64 → word < 2 ^ w → register_after w old word < 2 ^ 64
 merged_below w old word (inl e) h k = merged_at w 8 old word e (λ small. omega arith) k
 merged_below w old word (inr (inl e)) h k = merged_at w 16 old word e (λ small. omega arith) k
 merged_below w old word (inr (inr (inl e))) h k = merged_at w 32 old word e (λ small. omega arith) k
 merged_below w old word (inr (inr (inr e))) h k = merged_at w 64 old word e (λ small. omega arith) k
 
-byte_chosen : (b : Bool) (x y : ℕ) → y < 256 → (if b then x % 256 else y) < 256
-byte_chosen true x y h = mod_below x 256 (lit< tt)
-byte_chosen false x y h = h
-
 memory_below : (m : ℕ → ℕ) (at n word x : ℕ) → ((y : ℕ) → m y < 256) → with_word m at n word x < 256
 memory_below m at n word x h =
-    rw (with_word-if m at n word x) (byte_chosen (nat_lt (offset_from at x) n) (word / 256 ^ offset_from at x) (m x) (h x))
+    rw (with_word-if m at n word x)
+    (cond_both (nat_lt (offset_from at x) n) (word / 256 ^ offset_from at x % 256) (m x) (λ (b : ℕ). b < 256)
+    (λ near. mod_below (word / 256 ^ offset_from at x) 256 (lit< tt))
+    (λ far. h x))
 
 write_ranged : (w : ℕ) (s : Machine) (o : Operand) (word : ℕ) → IsWidth w → HasRegisters o → word < 2 ^ w → IsState s → IsState (with_value w s o word)
 write_ranged w s (Reg n width) word h low small state = record {
-  regs = set_regs s.regs n (merged w (slice_index s.regs n) word) low (merged_below w (slice_index s.regs n) word h (state.regs.below n) small) state.regs;
+  regs = set_regs s.regs n (register_after w (slice_index s.regs n) word) low (merged_below w (slice_index s.regs n) word h (state.regs.below n) small) state.regs;
   entry = state.entry;
   vecs = state.vecs;
   memory = state.memory;
@@ -94,7 +94,7 @@ write_ranged w s (Mem base index scale disp) word h low small state = record {
   regs = state.regs;
   entry = state.entry;
   vecs = state.vecs;
-  memory = λ x. memory_below s.memory (effective s.regs base index scale disp) (w / 8) word x state.memory;
+  memory = λ x. memory_below s.memory (effective_address s.regs base index scale disp) (w / 8) word x state.memory;
 }
 write_ranged w s (Imm v) word h low small state = state
 write_ranged w s (Vec n width) word h low small state = state
@@ -102,16 +102,13 @@ write_ranged w s (Pool n) word h low small state = state
 write_ranged w s (Target n) word h low small state = state
 write_ranged w s Nothing word h low small state = state
 
-choice_ranged : (b : Bool) (s t : Machine) → IsState s → IsState t → IsState (if b then t else s)
-choice_ranged true s t h k = k
-choice_ranged false s t h k = h
-
 -- a row whose result has its width
 row_ranged : (pool : List ℕ) (n : ℕ) (i : Insn) (s : Machine) (cond : ℕ) → IsRunnable n i → result_of pool i s cond < 2 ^ i.w → IsState s
     → IsState (after_row pool i s cond)
 row_ranged pool n i s cond r small state =
-    let t = choice_ranged (writes i.op) s (with_value i.w s (target_of i.op i) (result_of pool i s cond)) state
-    (write_ranged i.w s (target_of i.op i) (result_of pool i s cond) r.width (target_numbers i.op i r.numbers) small state)
+    let t = cond_both (writes i.op) (with_value i.w s (target_operand i.op i) (result_of pool i s cond)) s IsState
+    (λ writing. write_ranged i.w s (target_operand i.op i) (result_of pool i s cond) r.width (target_numbers i.op i r.numbers) small state)
+    (λ reading. state)
     in
     record { regs = t.regs; entry = t.entry; vecs = t.vecs; memory = t.memory }
 
@@ -120,9 +117,9 @@ computed_result : (pool : List ℕ) (n : ℕ) (i : Insn) (s : Machine) → famil
     → result_of pool i s 0 < 2 ^ i.w
 computed_result pool n i s f r bytes state =
     let a = destination_value pool i s in
-    let b = value_of pool (source_width i.op i.w) s (source_of i.op i) in
-    let low : a < 2 ^ i.w = value_below pool i.w s (destination_of i.op i) r.width bytes state in
-    let high : b < 2 ^ source_width i.op i.w = value_below pool (source_width i.op i.w) s (source_of i.op i) (source_is_width i.op i r.width r.row) bytes state in
+    let b = value_of pool (source_width i.op i.w) s (source_operand i.op i) in
+    let low : a < 2 ^ i.w = value_below pool i.w s (destination_operand i.op i) r.width bytes state in
+    let high : b < 2 ^ source_width i.op i.w = value_below pool (source_width i.op i.w) s (source_operand i.op i) (source_is_width i.op i r.width r.row) bytes state in
     let small : computed i.op i.w a b < 2 ^ i.w = computed_below i.op i.w a b (row_computes pool i.op i s a b f r.width r.row low high refl) in
     let same : computed i.op i.w a b ≡ result_of pool i s 0 = sym (computes i.op i.w 0 a b f) ∙ (λ j. value (row_leaves a (sym (source_read pool i.op i s f) j) 0) (row_expr i.op i.w (sym (source_read pool i.op i s f) j))) in
     subst (λ (x : ℕ). x < 2 ^ i.w) same small
@@ -131,10 +128,6 @@ address_below : (pool : List ℕ) (i : Insn) (s : Machine) → family_of i.op �
 address_below pool i s f =
     subst (λ (x : ℕ). x < 2 ^ i.w) (sym (address_result i.op i.w (destination_value pool i s) (source_value pool i.op i s) f))
     (mod_below (source_value pool i.op i s) (2 ^ i.w) (pow_pos i.w))
-
-either_word : (b : Bool) (x y p : ℕ) → x < p → y < p → (if b then x else y) < p
-either_word true x y p h k = h
-either_word false x y p h k = k
 
 choice_width : (op : Op) (w : ℕ) → family_of op ≡ Choice → source_width op w ≡ w
 choice_width (ops.Cmov c) w f = refl
@@ -145,10 +138,11 @@ choice_below : (pool : List ℕ) (n : ℕ) (i : Insn) (s : Machine) (holds : Boo
 choice_below pool n i s holds f r bytes state =
     let b = source_value pool i.op i s in
     let high : b < 2 ^ i.w = subst (λ (x : ℕ). x < 2 ^ i.w) (sym (choice_source pool i.op i s f))
-    (subst (λ (w : ℕ). value_of pool (source_width i.op i.w) s (source_of i.op i) < 2 ^ w) (choice_width i.op i.w f)
-    (value_below pool (source_width i.op i.w) s (source_of i.op i) (source_is_width i.op i r.width r.row) bytes state)) in
+    (subst (λ (w : ℕ). value_of pool (source_width i.op i.w) s (source_operand i.op i) < 2 ^ w) (choice_width i.op i.w f)
+    (value_below pool (source_width i.op i.w) s (source_operand i.op i) (source_is_width i.op i r.width r.row) bytes state)) in
     subst (λ (x : ℕ). x < 2 ^ i.w) (sym (choice_result i.op i.w (destination_value pool i s) b holds f))
-    (either_word holds b (destination_value pool i s) (2 ^ i.w) high (value_below pool i.w s (destination_of i.op i) r.width bytes state))
+    (cond_both holds b (destination_value pool i s) (λ (x : ℕ). x < 2 ^ i.w) (λ moving. high)
+    (λ staying. value_below pool i.w s (destination_operand i.op i) r.width bytes state))
 
 bit_small : (b : Bool) → bit b < 2
 bit_small true = lit< tt
@@ -169,7 +163,7 @@ number_below (Reg n w) h = h
 number_below _ h = lit< tt
 
 changed_ranged : (kind : Family) (pool : List ℕ) (n : ℕ) (i : Insn) (s : Machine) (holds : Bool) → family_of i.op ≡ kind → IsRunnable n i → IsPool pool → IsState s
-    → IsState (changed kind pool i s holds)
+    → IsState (after_change kind pool i s holds)
 changed_ranged Computing pool n i s holds f r bytes state = row_ranged pool n i s 0 r (computed_result pool n i s f r bytes state) state
 changed_ranged Address pool n i s holds f r bytes state = row_ranged pool n i s 0 r (address_below pool i s f) state
 changed_ranged Choice pool n i s holds f r bytes state = row_ranged pool n i s (bit holds) r (choice_below pool n i s holds f r bytes state) state
@@ -193,25 +187,30 @@ changed_ranged Popping pool n i s holds f r bytes state = record {
   memory = state.memory;
 }
 
-insn_ranged : (pool : List ℕ) (n : ℕ) (i : Insn) (s : Machine) → IsRunnable n i → IsPool pool → IsState s → LeadsTo IsState (insn_step pool i s)
-insn_ranged pool n i s r bytes state =
-    tested-leads IsState (allows i s) (free_insn pool i s)
-    (λ allowed. free-leads IsState pool i s (λ holds place.
-    let h = changed_ranged (family_of i.op) pool n i s holds refl r bytes state in
-    record { regs = h.regs; entry = h.entry; vecs = h.vecs; memory = h.memory }))
+-- A free step keeps each value of a state in its range,
+pub free_ranged : (insns : List Insn) (pool : List ℕ) (s t : Machine) → IsRunnableFunction insns → ((at : ℕ) → slice_index pool at < 256) → IsState s
+    → free_step insns pool s ≡ Goes t → IsState t
+free_ranged insns pool s t f bytes state h =
+    let by = free-goes insns pool s t h in
+    let after = changed_ranged (family_of by.insn.op) pool (length insns) by.insn s by.holds refl (f.each s.place by.insn by.there) bytes state in
+    subst IsState by.is (record { regs = after.regs; entry = after.entry; vecs = after.vecs; memory = after.memory })
 
-found_ranged : (insns : List Insn) (pool : List ℕ) (s : Machine) (found : Option Insn) → slice_get insns s.place ≡ found → IsRunnableFunction insns → IsPool pool
-    → IsState s → LeadsTo IsState (step_of insns pool s)
-found_ranged insns pool s None at f bytes state =
-    subst (λ (o : Option Insn). LeadsTo IsState (tested (allows_at o s) (free_at pool o s))) (sym at) tt
-found_ranged insns pool s (Some i) at f bytes state =
-    subst (λ (p : Step Machine). LeadsTo IsState p) (sym (step_at insns pool s i at)) (insn_ranged pool (length insns) i s (f.each s.place i at) bytes state)
-
+-- and so does a step.
 pub step_ranged : (insns : List Insn) (pool : List ℕ) (s t : Machine) → IsRunnableFunction insns → ((at : ℕ) → slice_index pool at < 256) → IsState s
     → step_of insns pool s ≡ Goes t → IsState t
-step_ranged insns pool s t f bytes state h = subst (λ (p : Step Machine). LeadsTo IsState p) h (found_ranged insns pool s (slice_get insns s.place) refl f bytes state)
+step_ranged insns pool s t f bytes state h = free_ranged insns pool s t f bytes state (guarded-goes (allows_step insns) (free_step insns pool) s t h).1
 
+-- what each step keeps, a run keeps
+runs_keep_state : (step : Machine → Step Machine) → ((s t : Machine) → IsState s → step s ≡ Goes t → IsState t) → (s : Machine) (n : ℕ) → IsState s
+    → IsState (run_of step s n).0
+runs_keep_state step each s n state = run_keeps step (λ t u. IsState t → IsState u) (λ t h. h) (λ t u v g h k. h (g k)) (λ t u h k. each t u k h) s n state
+
+-- A run keeps each value of a state in its range,
 pub run_ranged : (insns : List Insn) (pool : List ℕ) (s : Machine) (n : ℕ) → IsRunnableFunction insns → ((at : ℕ) → slice_index pool at < 256) → IsState s
     → IsState (run_of (step_of insns pool) s n).0
-run_ranged insns pool s n f bytes state =
-    run_keeps (step_of insns pool) (λ t u. IsState t → IsState u) (λ t h. h) (λ t u v g h k. h (g k)) (λ t u h k. step_ranged insns pool t u f bytes k h) s n state
+run_ranged insns pool s n f bytes state = runs_keep_state (step_of insns pool) (λ t u k h. step_ranged insns pool t u f bytes k h) s n state
+
+-- and so does a free run.
+pub free_run_ranged : (insns : List Insn) (pool : List ℕ) (s : Machine) (n : ℕ) → IsRunnableFunction insns → ((at : ℕ) → slice_index pool at < 256) → IsState s
+    → IsState (run_of (free_step insns pool) s n).0
+free_run_ranged insns pool s n f bytes state = runs_keep_state (free_step insns pool) (λ t u k h. free_ranged insns pool t u f bytes k h) s n state

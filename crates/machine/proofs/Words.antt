@@ -10,9 +10,11 @@ use Rattle.machine.specs.Spans.{HasBytes}
 use Rattle.machine.proofs.MemoryWords.{with_word-if, word_at-suc}
 use Rattle.machine.proofs.Ordering.{order_ends, byte_within, byte_written, addressed_from, not_addressed_from}
 
+-- how far an address lies behind one before it
 pub offset_above : (at x : ℕ) → at ≤ x → x < 2 ^ 64 → offset_from at x ≡ x - at
 offset_above at x h small = omega arith
 
+-- how far an address lies behind one past it, around the end of memory
 pub offset_below : (at x : ℕ) → x < at → at ≤ 2 ^ 64 → offset_from at x ≡ x + (2 ^ 64 - at)
 offset_below at x h small = omega arith
 
@@ -20,10 +22,12 @@ offset_below at x h small = omega arith
 pub same_span : (spans : List Span) (i at n : ℕ) (w : HasBytes spans i at n) (span : Span) → span ≡ get_or spans i span → span ≡ w.span
 same_span spans i at n w span e = e ∙ get_or_from_slice_get spans i w.span span w.is_span
 
+-- the span that has the bytes is the one that is read
 pub has_as_read : (spans : List Span) (i at n : ℕ) (w : HasBytes spans i at n) (span : Span) → span ≡ w.span
     → (slice_get spans i ≡ Some span) × (span.at ≤ at) × (at + n ≤ span.at + length span.bytes.items)
 has_as_read spans i at n w span e = subst (λ (x : Span). (slice_get spans i ≡ Some x) × (x.at ≤ at) × (at + n ≤ x.at + length x.bytes.items)) (sym e) (w.is_span, w.from, w.to)
 
+-- the span that was found has the bytes
 pub has_bytes_of : (spans : List Span) (i at n : ℕ) (span : Span) → i < length spans → span ≡ get_or spans i span
     → span.at ≤ at → at + n ≤ span.at + length span.bytes.items → HasBytes spans i at n
 has_bytes_of spans i at n span inside e from to = record { span = span; is_span = slice_get_read spans (length spans) i span refl inside e; from = from; to = to }
@@ -61,9 +65,9 @@ span_written spans i at n word span new x o e from to same len bytes small =
     let ends : span.at + length span.bytes.items ≤ 2 ^ 64 = order_ends 0 spans i span o e in
     let f : ℕ → ℕ = λ k. word / 256 ^ k % 256 in
     let y : ℕ = x - span.at in
-    let written : ℕ = if nat_lt (offset_from at x) n then f (offset_from at x) else byte_of spans x in
+    let regs_with : ℕ = if nat_lt (offset_from at x) n then f (offset_from at x) else byte_of spans x in
     byte_written 0 spans i span new x o e same len
-    ∙ elim (spans_address span x) as (λ v. spans_address span x ≡ v → (if v then slice_index new.bytes.items y else byte_of spans x) ≡ written) [
+    ∙ elim (spans_address span x) as (λ v. spans_address span x ≡ v → (if v then slice_index new.bytes.items y else byte_of spans x) ≡ regs_with) [
       | true ↦ (λ t.
           let here = addressed_from span x t in
           let low : span.at ≤ x = here.0 in

@@ -13,7 +13,7 @@ use Rattle.machine.specs.Access.{Access, access_at, access_of, accesses, arity, 
 use Rattle.machine.specs.Family.{family_of}
 use Rattle.machine.specs.Machine.{Machine}
 use Rattle.machine.specs.Operands.{operand}
-use Rattle.machine.specs.Step.{target_of}
+use Rattle.machine.specs.Step.{target_operand}
 
 no_access : (s : Machine) (w : ℕ) (o : Operand) → is_addressed o ≡ false → list_all (is_allowed s) (access_of s o w true) ≡ true
 no_access s w (Mem base index scale disp) h = absurd (cc)
@@ -59,6 +59,7 @@ all_three p xs ys zs h =
     let one = both_true (list_all p xs) (list_all p ys) (sym (list_all-append p xs ys) ∙ two.0) in
     (one.0, one.1, two.1)
 
+-- what a row writes is allowed where each of its accesses is
 pub written_allowed : (i : Insn) (s : Machine) → writes i.op ≡ true → list_all (is_allowed s) (operand_accesses i s) ≡ true
     → list_all (is_allowed s) (access_of s (operand i (arity i - 1)) i.w true) ≡ true
 written_allowed i s writing h =
@@ -69,8 +70,8 @@ written_allowed i s writing h =
     last_allowed i s (is_nothing (operand i 0)) (is_nothing (operand i 1)) (is_nothing (operand i 2)) refl (with_k 0 each.0) (with_k 1 each.1) (with_k 2 each.2)
 
 -- what a row writes may be written, where its accesses are allowed and `lea` writes no memory
-pub row_allowed : (o : Op) (i : Insn) (s : Machine) → writes i.op ≡ true → (o ≡ ops.Lea → is_addressed (target_of ops.Lea i) ≡ false)
-    → list_all (is_allowed s) (accesses (family_of o) i s) ≡ true → list_all (is_allowed s) (access_of s (target_of o i) i.w true) ≡ true
+pub row_allowed : (o : Op) (i : Insn) (s : Machine) → writes i.op ≡ true → (o ≡ ops.Lea → is_addressed (target_operand ops.Lea i) ≡ false)
+    → list_all (is_allowed s) (accesses (family_of o) i s) ≡ true → list_all (is_allowed s) (access_of s (target_operand o i) i.w true) ≡ true
 row_allowed ops.Cltq i s writing lea h = refl
-row_allowed ops.Lea i s writing lea h = no_access s i.w (target_of ops.Lea i) (lea refl)
+row_allowed ops.Lea i s writing lea h = no_access s i.w (target_operand ops.Lea i) (lea refl)
 row_allowed _ i s writing lea h = written_allowed i s writing h

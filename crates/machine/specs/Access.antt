@@ -13,7 +13,7 @@ use Rattle.machine.specs.declared.operands.Family.TheVariants.{Address, Popping,
 use Rattle.machine.specs.declared.state.Region.{Region}
 use Rattle.machine.specs.Family.{family_of}
 use Rattle.machine.specs.Machine.{Machine, offset_from, stack_base}
-use Rattle.machine.specs.Operands.{effective, operand}
+use Rattle.machine.specs.Operands.{effective_address, operand}
 
 -- some bytes from an address on, and whether they are written
 pub record Access : Type 0 where
@@ -23,7 +23,9 @@ pub record Access : Type 0 where
 
 -- how many operands an instruction has
 abbrev pub arity : Insn → ℕ
-arity i = if is_nothing (operand i 0) then 0 else (if is_nothing (operand i 1) then 1 else (if is_nothing (operand i 2) then 2 else 3))
+arity i =
+    if is_nothing (operand i 0) then 0
+    else (if is_nothing (operand i 1) then 1 else (if is_nothing (operand i 2) then 2 else 3))
 
 -- whether the last operand is written
 abbrev pub writes : Op → Bool
@@ -44,7 +46,8 @@ width_at i k = if (k == 0) && nat_le 2 (arity i) then source_width i.op i.w else
 
 -- the access of an operand of w bits: none but of a memory operand
 abbrev pub access_of : Machine → Operand → ℕ → Bool → List Access
-access_of s (Mem base index scale disp) w write = record { at = effective s.regs base index scale disp; bytes = w / 8; write = write } ∷ []
+access_of s (Mem base index scale disp) w write =
+    record { at = effective_address s.regs base index scale disp; bytes = w / 8; write = write } ∷ []
 access_of s _ w write = []
 
 -- operand k is written where it is the last one, and the operation writes
@@ -72,6 +75,7 @@ is_allowed s a = list_any (λ r. (not a.write || r.write) && holds_access r a) s
 abbrev pub is_on_stack : Machine → ℕ → Bool
 is_on_stack s at = not (nat_lt s.stack 8) && not (nat_lt (s.stack - 8) (offset_from (stack_base s) at))
 
+-- what %rsp holds, register 4
 abbrev pub stack_pointer : Machine → ℕ
 stack_pointer s = slice_index s.regs 4
 
@@ -83,5 +87,6 @@ allows_by Popping i s = is_on_stack s (stack_pointer s)
 allows_by Return i s = stack_pointer s == slice_index s.entry 4
 allows_by kind i s = list_all (is_allowed s) (accesses kind i s)
 
+-- each test of an instruction holds
 abbrev pub allows : Insn → Machine → Bool
 allows i s = allows_by (family_of i.op) i s

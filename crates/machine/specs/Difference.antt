@@ -1,8 +1,8 @@
 -- When two returned states have the same end, and where they first differ: what a caller of the functions may see of
 -- them, their live outputs and the memory outside scratch and stack.
 --
--- The scratch lines and the stack range are this project's own. The stack range is that of the first state, and both have
--- the same one where both returned from one start state.
+-- The scratch lines and the stack range are this project's own. The stack range is that of the first state, and both
+-- have the same one where both returned from one start state.
 use Rattle.std.specs.Prelude.{◌≡◌, ◌⊎◌, ℕ, ◌/◌, ◌%◌, ◌^◌, ◌<◌, Bool, true, List, [], ◌∷◌, get_or, length, slice_get, slice_index, Some, take, nat_lt}
 use Rattle.std.specs.List.{list_any}
 use Rattle.align_base.specs.declared.output.Output.{Output}
@@ -62,8 +62,8 @@ pub record IsFirstByte (scratch : List (ℕ × ℕ)) (s t : Machine) (at : ℕ) 
   pub other : OtherByte scratch s t at
   pub first : (x : ℕ) → x < at → SameByte scratch s t x
 
--- Where two states that don't have the same end first differ: live outputs come first, in their order, then bytes from the
--- least address on.
+-- Where two states that don't have the same end first differ: live outputs come first, in their order, then bytes from
+-- the least address on.
 abbrev pub IsFirstDifference : List Output → List (ℕ × ℕ) → Machine → Machine → Difference → Type 0
 IsFirstDifference live scratch s t (Out k) = IsFirstOutput live s t k
 IsFirstDifference live scratch s t (Byte at) = AgreeBefore live s t (length live) × IsFirstByte scratch s t at

@@ -8,6 +8,7 @@ use Rattle.instruction_semantics.specs.Conditions.{cond_of}
 use Rattle.machine.specs.declared.operands.Family.{Family}
 use Rattle.machine.specs.declared.operands.Family.TheVariants.{Computing, Address, Choice, Setting, Branch, Jump, Pushing, Popping, Return, Idle}
 
+-- the family of an operation
 abbrev pub family_of : Op → Family
 family_of ops.Lea = Address
 family_of (ops.Cmov c) = Choice
@@ -28,10 +29,11 @@ condition_of (ops.Set c) = Some c
 condition_of (ops.Jump c) = Some c
 condition_of _ = None
 
-abbrev pub held_by : Option Cond → Flags → Option Bool
-held_by None f = Some false
-held_by (Some c) f = cond_of c f
+-- the value of a condition, where there is one: None where a flag that it reads is unset
+abbrev pub value_of_condition : Option Cond → Flags → Option Bool
+value_of_condition None f = Some false
+value_of_condition (Some c) f = cond_of c f
 
 -- the condition's value, None where a flag that it reads is unset; an operation that reads none has any
 abbrev pub holds_of : Op → Flags → Option Bool
-holds_of op f = held_by (condition_of op) f
+holds_of op f = value_of_condition (condition_of op) f

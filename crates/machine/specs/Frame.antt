@@ -18,8 +18,10 @@ has_address at r = nat_lt (offset_from r.base at) r.len
 
 -- the address lies in a region that may be written, or among the declared stack bytes
 abbrev pub is_writable : Machine → ℕ → Bool
-is_writable s at = list_any (λ r. r.write && has_address at r) s.regions || nat_lt (offset_from (stack_base s) at) s.stack
+is_writable s at =
+    list_any (λ r. r.write && has_address at r) s.regions || nat_lt (offset_from (stack_base s) at) s.stack
 
+-- the byte at the address may be written
 abbrev pub IsWritable : Machine → ℕ → Type 0
 IsWritable s at = is_writable s at ≡ true
 

@@ -4,6 +4,7 @@ use Rattle.lane_views.specs.declared.Bytes32.{Bytes32}
 use Rattle.machine.specs.declared.state.State.TheInside.{Inside}
 use Rattle.machine.specs.Kept.{IsKept, Kept}
 
+-- what is kept of a state, from the fields of the code
 abbrev pub kept_of : Inside → Kept
 kept_of s = record {
   regs = s.regs;

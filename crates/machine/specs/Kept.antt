@@ -7,6 +7,7 @@ use Rattle.machine.specs.declared.state.Region.{Region}
 use Rattle.machine.specs.declared.state.Span.{Span}
 use Rattle.machine.specs.Machine.{IsInStack, Machine}
 
+-- a state as it is kept: as Machine, with spans of bytes in place of a memory
 pub record Kept : Type 0 where
   pub regs : List ℕ
   pub entry : List ℕ
@@ -24,8 +25,10 @@ spans_address span at = nat_le span.at at && nat_lt (at - span.at) (length span.
 -- the byte of the first span that has the address; a byte in no span is 0
 abbrev pub byte_of : List Span → ℕ → ℕ
 byte_of [] at = 0
-byte_of (span ∷ spans) at = if spans_address span at then slice_index span.bytes.items (at - span.at) else byte_of spans at
+byte_of (span ∷ spans) at =
+    if spans_address span at then slice_index span.bytes.items (at - span.at) else byte_of spans at
 
+-- some span has the address
 abbrev pub is_spanned : List Span → ℕ → Bool
 is_spanned [] at = false
 is_spanned (span ∷ spans) at = if spans_address span at then true else is_spanned spans at
@@ -36,12 +39,24 @@ memory_of spans at = byte_of spans (at % 2 ^ 64)
 
 -- the state that is kept so
 abbrev pub pure_of : Kept → Machine
-pure_of k = record { regs = k.regs; entry = k.entry; flags = k.flags; vecs = k.vecs; memory = memory_of k.spans; regions = k.regions; stack = k.stack; place = k.place }
+pure_of k = record {
+  regs = k.regs;
+  entry = k.entry;
+  flags = k.flags;
+  vecs = k.vecs;
+  memory = memory_of k.spans;
+  regions = k.regions;
+  stack = k.stack;
+  place = k.place;
+}
 
 -- spans in order and apart, from an address on, none past 2^64
 abbrev pub AreOrdered : ℕ → List Span → Type 0
 AreOrdered from [] = Unit {0}
-AreOrdered from (span ∷ spans) = (from ≤ span.at) × (span.at + length span.bytes.items ≤ 2 ^ 64) × AreOrdered (span.at + length span.bytes.items) spans
+AreOrdered from (span ∷ spans) =
+    (from ≤ span.at)
+    × (span.at + length span.bytes.items ≤ 2 ^ 64)
+    × AreOrdered (span.at + length span.bytes.items) spans
 
 -- a region that does not wrap and has no byte of the stack range
 pub record IsRegion (s : Machine) (r : Region) : Type 0 where
@@ -52,6 +67,7 @@ pub record IsRegion (s : Machine) (r : Region) : Type 0 where
 pub record IsKept (k : Kept) : Type 0 where
   pub ordered : AreOrdered 0 k.spans
   pub regions : AllByRecursion (IsRegion (pure_of k)) k.regions
-  pub spanned : AllByRecursion (λ r. (at : ℕ) → r.base ≤ at → at < r.base + r.len → is_spanned k.spans at ≡ true) k.regions
+  pub spanned : AllByRecursion (λ r. (at : ℕ) → r.base ≤ at → at < r.base + r.len → is_spanned k.spans at ≡ true)
+      k.regions
   pub stack_spanned : (at : ℕ) → at < 2 ^ 64 → IsInStack (pure_of k) at → is_spanned k.spans at ≡ true
   pub small : k.stack ≤ 4096

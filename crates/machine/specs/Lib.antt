@@ -1,7 +1,6 @@
 pub mod Access
 pub mod Difference
 pub mod Differing
-pub mod Equivalent
 pub mod Family
 pub mod Frame
 pub mod Holding
@@ -9,13 +8,10 @@ pub mod Kept
 pub mod Machine
 pub mod Memory
 pub mod Operands
-pub mod Path
 pub mod Ready
-pub mod Run
 pub mod Runnable
 pub mod Spanned
 pub mod Spans
 pub mod Start
 pub mod Step
-pub mod Stepping
 pub mod Straight

@@ -7,6 +7,7 @@ use Rattle.std.specs.Prelude.{◌≡◌, ℕ, ◌+◌, ◌-◌, ◌^◌, ◌%◌
 use Rattle.align_base.specs.declared.op.Flags.{Flags}
 use Rattle.machine.specs.declared.state.Region.{Region}
 
+-- the state of the machine
 pub record Machine : Type 0 where
   pub regs : List ℕ
   pub entry : List ℕ
@@ -50,7 +51,8 @@ offset_from base at = (at + (2 ^ 64 - base)) % 2 ^ 64
 abbrev pub entry_pointer : Machine → ℕ
 entry_pointer s = slice_index s.entry 4
 
--- the first of the declared stack bytes, which end at the entry's stack pointer; the eight bytes behind them are the return slot
+-- the first of the declared stack bytes, which end at the entry's stack pointer; the eight bytes behind them are the
+-- return slot
 abbrev pub stack_base : Machine → ℕ
 stack_base s = offset_from s.stack (entry_pointer s)
 

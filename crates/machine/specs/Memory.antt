@@ -1,5 +1,5 @@
--- Words in a memory that has a byte at each address. A word's lowest byte lies at its lowest address (Intel SDM volume 1,
--- 1.3.1, bit and byte order). Addresses are calculated with 64 bits, so they wrap at 2^64 (volume 1, 3.3.7).
+-- Words in a memory that has a byte at each address. A word's lowest byte lies at its lowest address (Intel SDM volume
+-- 1, 1.3.1, bit and byte order). Addresses are calculated with 64 bits, so they wrap at 2^64 (volume 1, 3.3.7).
 use Rattle.std.specs.Prelude.{ℕ, zero, suc, ◌+◌, ◌*◌, ◌/◌, ◌%◌, List, [], ◌∷◌, ◌++◌, get_or}
 use Rattle.machine.specs.Machine.{address_plus, offset_from}
 

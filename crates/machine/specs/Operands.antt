@@ -13,16 +13,18 @@ displacement (pos n) = n
 displacement (negsuc n) = 2 ^ 64 - (n + 1)
 
 -- what a base or an index adds, where there is one
-abbrev pub held : List ℕ → Option ℕ → ℕ
-held regs None = 0
-held regs (Some n) = slice_index regs n
+abbrev pub register_or_zero : List ℕ → Option ℕ → ℕ
+register_or_zero regs None = 0
+register_or_zero regs (Some n) = slice_index regs n
 
 -- the address of a memory operand: base, index times scale and displacement, modulo 2^64 (Intel SDM volume 1, 3.7.5)
-abbrev pub effective : List ℕ → Option ℕ → Option ℕ → ℕ → ℤ → ℕ
-effective regs base index scale disp = (held regs base + held regs index * scale + displacement disp) % 2 ^ 64
+abbrev pub effective_address : List ℕ → Option ℕ → Option ℕ → ℕ → ℤ → ℕ
+effective_address regs base index scale disp =
+    (register_or_zero regs base + register_or_zero regs index * scale + displacement disp) % 2 ^ 64
 
+-- the address of an operand in memory, 0 of another
 abbrev pub address_of : List ℕ → Operand → ℕ
-address_of regs (Mem base index scale disp) = effective regs base index scale disp
+address_of regs (Mem base index scale disp) = effective_address regs base index scale disp
 address_of regs (Reg n w) = 0
 address_of regs (Imm v) = 0
 address_of regs (Vec n w) = 0
@@ -34,20 +36,21 @@ address_of regs Nothing = 0
 abbrev pub value_of : List ℕ → ℕ → Machine → Operand → ℕ
 value_of pool w s (Reg n width) = slice_index s.regs n % 2 ^ w
 value_of pool w s (Imm v) = v % 2 ^ w
-value_of pool w s (Mem base index scale disp) = word_at s.memory (effective s.regs base index scale disp) (w / 8)
+value_of pool w s (Mem base index scale disp) = word_at s.memory (effective_address s.regs base index scale disp) (w / 8)
 value_of pool w s (Pool n) = word_at (λ at. slice_index pool at) n (w / 8)
 value_of pool w s (Vec n width) = 0
 value_of pool w s (Target n) = 0
 value_of pool w s Nothing = 0
 
 -- a register after a write of w bits
-abbrev pub merged : ℕ → ℕ → ℕ → ℕ
-merged w old word = if (w == 8) || (w == 16) then old / 2 ^ w * 2 ^ w + word else word
+abbrev pub register_after : ℕ → ℕ → ℕ → ℕ
+register_after w old word = if (w == 8) || (w == 16) then old / 2 ^ w * 2 ^ w + word else word
 
 -- the state after a write of w bits to an operand
 abbrev pub with_value : ℕ → Machine → Operand → ℕ → Machine
-with_value w s (Reg n width) word = record s { regs = slice_set s.regs n (merged w (slice_index s.regs n) word) }
-with_value w s (Mem base index scale disp) word = record s { memory = with_word s.memory (effective s.regs base index scale disp) (w / 8) word }
+with_value w s (Reg n width) word = record s { regs = slice_set s.regs n (register_after w (slice_index s.regs n) word) }
+with_value w s (Mem base index scale disp) word =
+    record s { memory = with_word s.memory (effective_address s.regs base index scale disp) (w / 8) word }
 with_value w s (Imm v) word = s
 with_value w s (Vec n width) word = s
 with_value w s (Pool n) word = s

@@ -10,11 +10,12 @@ use Rattle.machine.specs.Kept.{Kept, pure_of}
 use Rattle.machine.specs.Machine.{Machine}
 use Rattle.machine.specs.Operands.{operand, with_value}
 use Rattle.machine.specs.Runnable.{HasRowOf, IsWidth}
-use Rattle.machine.specs.Step.{target_of}
+use Rattle.machine.specs.Step.{target_operand}
 
 -- the state after a row that has given this result and these flags
-abbrev pub completed : Insn → Machine → ℕ → Flags → Machine
-completed i s result flags = record (if writes i.op then with_value i.w s (target_of i.op i) result else s) { flags = flags }
+abbrev pub finished_row : Insn → Machine → ℕ → Flags → Machine
+finished_row i s result flags =
+    record (if writes i.op then with_value i.w s (target_operand i.op i) result else s) { flags = flags }
 
 -- an instruction of this family, whose tests hold
 pub record IsReady (kind : Family) (i : Insn) (k : Kept) : Type 0 where

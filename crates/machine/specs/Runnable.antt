@@ -8,14 +8,16 @@ use Rattle.insn_table.specs.declared.insn.Operand.TheVariants.{Reg, Imm}
 use Rattle.insn_table.specs.Closed.{IsLeaving}
 use Rattle.insn_table.specs.Table.{HasRegisters}
 use Rattle.machine.specs.Operands.{operand}
-use Rattle.machine.specs.Step.{jump_place, target_of}
+use Rattle.machine.specs.Step.{jump_place, target_operand}
 
+-- the width of a general register or of a part of it
 abbrev pub IsWidth : ℕ → Type 0
 IsWidth w = (w ≡ 8) ⊎ ((w ≡ 16) ⊎ ((w ≡ 32) ⊎ (w ≡ 64)))
 
-abbrev pub IsRegister : Operand → Type 0
-IsRegister (Reg n w) = Unit {0}
-IsRegister _ = ⊥
+-- the operand is a general register, of any width
+abbrev pub IsGeneralRegister : Operand → Type 0
+IsGeneralRegister (Reg n w) = Unit {0}
+IsGeneralRegister _ = ⊥
 
 -- the source is a count in the range of its shift
 pub record HasCount (i : Insn) : Type 0 where
@@ -29,7 +31,7 @@ abbrev pub HasRowOf : Op → Insn → Type 0
 HasRowOf ops.Shl i = HasCount i
 HasRowOf ops.Shr i = HasCount i
 HasRowOf ops.Sar i = HasCount i
-HasRowOf ops.Lea i = IsRegister (target_of ops.Lea i)
+HasRowOf ops.Lea i = IsGeneralRegister (target_operand ops.Lea i)
 HasRowOf (ops.Movzx m) i = IsWidth m × (m < i.w)
 HasRowOf (ops.Movsx m) i = IsWidth m × (m < i.w)
 HasRowOf ops.Cltq i = i.w ≡ 64

@@ -1,6 +1,6 @@
--- One step, from its parts: what the instruction may access and whether all of it is allowed (in Access), where it leads, and
--- how it changes the state. The free step takes every access as allowed and every return as one; the step is the free step
--- under the tests of what is allowed.
+-- One step, from its parts: what the instruction may access and whether all of it is allowed (in Access), where it leads,
+-- and how it changes the state. The free step takes every access as allowed and every return as one; the step is the
+-- free step under the tests of what is allowed.
 --
 -- What a row computes and which flags it leaves is said in instruction_semantics, with the sections of Intel's Software
 -- Developer's Manual, volume 2.
@@ -21,30 +21,33 @@ use Rattle.machine.specs.Family.{family_of, holds_of}
 use Rattle.machine.specs.Machine.{Machine, address_plus, offset_from}
 use Rattle.machine.specs.Memory.{with_word, word_at}
 use Rattle.machine.specs.Operands.{address_of, operand, value_of, with_value}
-use Rattle.machine.specs.Run.{Step, Goes, Returns, Faults, MeetsUnset, guarded, tested}
+use Rattle.runs.specs.Run.{Step, Goes, Returns, Faults, MeetsUnset, guarded, tested}
 
 -- The operands of a row by their number: of one operand it is the destination; of two the second is the destination and
 -- the first the source; of three the third is written with what the second and the first give. `cltq` has none and is
 -- from EAX to RAX.
-abbrev pub target_of : Op → Insn → Operand
-target_of ops.Cltq i = Reg 0 64
-target_of _ i = operand i (arity i - 1)
+abbrev pub target_operand : Op → Insn → Operand
+target_operand ops.Cltq i = Reg 0 64
+target_operand _ i = operand i (arity i - 1)
 
-abbrev pub destination_of : Op → Insn → Operand
-destination_of ops.Cltq i = Reg 0 64
-destination_of _ i = if arity i == 1 then operand i 0 else operand i 1
+-- the operand that a row's destination is read from
+abbrev pub destination_operand : Op → Insn → Operand
+destination_operand ops.Cltq i = Reg 0 64
+destination_operand _ i = if arity i == 1 then operand i 0 else operand i 1
 
-abbrev pub source_of : Op → Insn → Operand
-source_of ops.Cltq i = Reg 0 32
-source_of _ i = operand i 0
+-- the operand that a row's source is read from
+abbrev pub source_operand : Op → Insn → Operand
+source_operand ops.Cltq i = Reg 0 32
+source_operand _ i = operand i 0
 
 -- what the source gives: its value at the source's width, of `lea` its address
 abbrev pub source_value : List ℕ → Op → Insn → Machine → ℕ
 source_value pool ops.Lea i s = address_of s.regs (operand i 0)
-source_value pool op i s = value_of pool (source_width op i.w) s (source_of op i)
+source_value pool op i s = value_of pool (source_width op i.w) s (source_operand op i)
 
+-- what the destination gives
 abbrev pub destination_value : List ℕ → Insn → Machine → ℕ
-destination_value pool i s = value_of pool i.w s (destination_of i.op i)
+destination_value pool i s = value_of pool i.w s (destination_operand i.op i)
 
 -- the leaves of a row: destination, source, condition
 abbrev pub row_leaves : ℕ → ℕ → ℕ → ℕ → ℕ
@@ -55,21 +58,26 @@ row_leaves destination source cond (suc (suc i)) = cond
 -- what a row computes, where its condition has this value
 abbrev pub result_of : List ℕ → Insn → Machine → ℕ → ℕ
 result_of pool i s cond =
-    value (row_leaves (destination_value pool i s) (source_value pool i.op i s) cond) (row_expr i.op i.w (source_value pool i.op i s))
+    let source = source_value pool i.op i s in
+    value (row_leaves (destination_value pool i s) source cond) (row_expr i.op i.w source)
 
 -- the state after a row's result
 abbrev pub with_result : List ℕ → Insn → Machine → ℕ → Machine
-with_result pool i s cond = if writes i.op then with_value i.w s (target_of i.op i) (result_of pool i s cond) else s
+with_result pool i s cond = if writes i.op then with_value i.w s (target_operand i.op i) (result_of pool i s cond) else s
 
 -- the state after a row
 abbrev pub after_row : List ℕ → Insn → Machine → ℕ → Machine
-after_row pool i s cond = record (with_result pool i s cond) { flags = flags_after i.op i.w (destination_value pool i s) (source_value pool i.op i s) s.flags }
+after_row pool i s cond =
+    record (with_result pool i s cond) {
+      flags = flags_after i.op i.w (destination_value pool i s) (source_value pool i.op i s) s.flags;
+    }
 
 -- the place that a jump goes to
 abbrev pub jump_place : Operand → ℕ
 jump_place (Target n) = n
 jump_place _ = 0
 
+-- the state at another place
 abbrev pub at_place : Machine → ℕ → Machine
 at_place s place = record s { place = place }
 
@@ -79,8 +87,8 @@ register_number (Reg n w) = n
 register_number _ = 0
 
 -- PUSH stores the old value, also of the stack pointer itself
-abbrev pub pushed : Insn → Machine → Machine
-pushed i s =
+abbrev pub after_push : Insn → Machine → Machine
+after_push i s =
     let below = offset_from 8 (stack_pointer s) in
     record s {
       regs = slice_set s.regs 4 below;
@@ -88,22 +96,24 @@ pushed i s =
     }
 
 -- POP into the stack pointer leaves the value read
-abbrev pub popped : Insn → Machine → Machine
-popped i s =
+abbrev pub after_pop : Insn → Machine → Machine
+after_pop i s =
     let above = address_plus (stack_pointer s) 8 in
-    record s { regs = slice_set (slice_set s.regs 4 above) (register_number (operand i 0)) (word_at s.memory (stack_pointer s) 8) }
+    let read = word_at s.memory (stack_pointer s) 8 in
+    record s { regs = slice_set (slice_set s.regs 4 above) (register_number (operand i 0)) read }
 
--- how an instruction of a family changes registers, flags and memory, where its condition, if it reads one, has this value
-abbrev pub changed : Family → List ℕ → Insn → Machine → Bool → Machine
-changed Pushing pool i s holds = pushed i s
-changed Popping pool i s holds = popped i s
-changed Branch pool i s holds = s
-changed Jump pool i s holds = s
-changed Return pool i s holds = s
-changed Idle pool i s holds = s
-changed Choice pool i s holds = after_row pool i s (bit holds)
-changed Setting pool i s holds = after_row pool i s (bit holds)
-changed _ pool i s holds = after_row pool i s 0
+-- how an instruction of a family changes registers, flags and memory, where its condition, if it reads one, has this
+-- value
+abbrev pub after_change : Family → List ℕ → Insn → Machine → Bool → Machine
+after_change Pushing pool i s holds = after_push i s
+after_change Popping pool i s holds = after_pop i s
+after_change Branch pool i s holds = s
+after_change Jump pool i s holds = s
+after_change Return pool i s holds = s
+after_change Idle pool i s holds = s
+after_change Choice pool i s holds = after_row pool i s (bit holds)
+after_change Setting pool i s holds = after_row pool i s (bit holds)
+after_change _ pool i s holds = after_row pool i s 0
 
 -- where an instruction of a family at a place leads, where its condition has this value: None where it returns
 abbrev pub leads_to : Family → Insn → ℕ → Bool → Option ℕ
@@ -113,34 +123,38 @@ leads_to Return i place holds = None
 leads_to _ i place holds = Some (place + 1)
 
 -- the changed state at the place that is led to
-abbrev pub gone : Option ℕ → Machine → Step Machine
-gone None s = Returns
-gone (Some place) s = Goes (at_place s place)
+abbrev pub step_to : Option ℕ → Machine → Step Machine
+step_to None s = Returns
+step_to (Some place) s = Goes (at_place s place)
 
+-- the step of an instruction of a family, where its condition has this value
 abbrev pub goes : Family → List ℕ → Insn → Machine → Bool → Step Machine
-goes kind pool i s holds = gone (leads_to kind i s.place holds) (changed kind pool i s holds)
+goes kind pool i s holds = step_to (leads_to kind i s.place holds) (after_change kind pool i s holds)
 
 -- what follows a condition's value; a flag that is unset is met
-abbrev pub conditional : Option Bool → (Bool → Step Machine) → Step Machine
-conditional None goes = MeetsUnset
-conditional (Some holds) goes = goes holds
+abbrev pub step_where_known : Option Bool → (Bool → Step Machine) → Step Machine
+step_where_known None goes = MeetsUnset
+step_where_known (Some holds) goes = goes holds
 
 -- the free step of an instruction, which takes every test as met
 abbrev pub free_insn : List ℕ → Insn → Machine → Step Machine
-free_insn pool i s = conditional (holds_of i.op s.flags) (goes (family_of i.op) pool i s)
+free_insn pool i s = step_where_known (holds_of i.op s.flags) (goes (family_of i.op) pool i s)
 
 -- the instruction at the state's place; a place outside of the function faults
 abbrev pub free_at : List ℕ → Option Insn → Machine → Step Machine
 free_at pool None s = Faults
 free_at pool (Some i) s = free_insn pool i s
 
+-- one step of a function of these instructions with this pool, which takes every test as met
 abbrev pub free_step : List Insn → List ℕ → Machine → Step Machine
 free_step insns pool s = free_at pool (slice_get insns s.place) s
 
+-- each test of the instruction at the state's place holds
 abbrev pub allows_at : Option Insn → Machine → Bool
 allows_at None s = true
 allows_at (Some i) s = allows i s
 
+-- each test of the next step holds
 abbrev pub allows_step : List Insn → Machine → Bool
 allows_step insns s = allows_at (slice_get insns s.place) s
 

@@ -10,9 +10,9 @@ use Rattle.insn_table.specs.Plain.{IsPlain}
 use Rattle.machine.specs.Frame.{SameFrame}
 use Rattle.machine.specs.Machine.{AreRegs, IsPlainStart, Machine}
 use Rattle.machine.specs.Operands.{operand}
-use Rattle.machine.specs.Run.{end_of, run_of}
+use Rattle.runs.specs.Run.{end_of, run_of}
 use Rattle.machine.specs.Step.{step_of}
-use Rattle.machine.specs.declared.state.RunEnd.TheVariants.{Returned, Faulted, Unset}
+use Rattle.runs.specs.declared.ends.RunEnd.TheVariants.{Returned, Faulted, Unset}
 
 -- what a source of 64 bits holds
 abbrev pub value_at : List ℕ → Operand → ℕ
@@ -21,20 +21,21 @@ value_at regs (Imm v) = v
 value_at regs _ = 0
 
 -- the registers after a write to a register of 64 bits
-abbrev pub written : List ℕ → Operand → ℕ → List ℕ
-written regs (Reg n w) v = slice_set regs n v
-written regs _ v = regs
+abbrev pub regs_with : List ℕ → Operand → ℕ → List ℕ
+regs_with regs (Reg n w) v = slice_set regs n v
+regs_with regs _ v = regs
 
 -- what a move, sum or difference makes of the target's old value and the source, modulo 2^64
-abbrev pub computed : Op → ℕ → ℕ → ℕ
-computed Mov old value = value
-computed Add old value = (old + value) % 2 ^ 64
-computed Sub old value = (old + (2 ^ 64 - value)) % 2 ^ 64
-computed _ old value = old
+abbrev pub plain_result : Op → ℕ → ℕ → ℕ
+plain_result Mov old value = value
+plain_result Add old value = (old + value) % 2 ^ 64
+plain_result Sub old value = (old + (2 ^ 64 - value)) % 2 ^ 64
+plain_result _ old value = old
 
 -- the registers after a plain move
 abbrev pub regs_after : Insn → List ℕ → List ℕ
-regs_after i regs = written regs (operand i 1) (computed i.op (value_at regs (operand i 1)) (value_at regs (operand i 0)))
+regs_after i regs =
+    regs_with regs (operand i 1) (plain_result i.op (value_at regs (operand i 1)) (value_at regs (operand i 0)))
 
 -- the registers after these moves
 abbrev pub regs_through : List Insn → List ℕ → List ℕ
@@ -45,10 +46,11 @@ regs_through (i ∷ is) regs = regs_through is (regs_after i regs)
 pub record LeaveTheSame (f g : List Insn) : Type 0 where
   pub left : IsPlain f
   pub right : IsPlain g
-  pub same : (s : Machine) → IsPlainStart s → slice_index (regs_through left.moves s.regs) 0 ≡ slice_index (regs_through right.moves s.regs) 0
+  pub same : (s : Machine) → IsPlainStart s
+      → slice_index (regs_through left.moves s.regs) 0 ≡ slice_index (regs_through right.moves s.regs) 0
 
--- From the start state s it returns at its last instruction, in a state of 64-bit registers, those after all moves before
--- it, where all but registers, flags and place is as it was; and it ends in no other way.
+-- From the start state s it returns at its last instruction, in a state of 64-bit registers, those after all moves
+-- before it, where all but registers, flags and place is as it was; and it ends in no other way.
 pub record OnlyReturns (insns : List Insn) (pool : List ℕ) (s : Machine) : Type 0 where
   pub end : Machine
   pub returned : run_of (step_of insns pool) s (length insns) ≡ (end, Returned (length insns))

@@ -1,3 +1,4 @@
+//! Where two returned states first differ.
 ghost use Rattle.std.specs.Prelude.{◌≡◌, ◌+◌, ◌^◌, ◌<◌, ◌≤◌, IfNone, IfSome, List, MatchBool, length, true, ℕ};
 ghost use Rattle.std.specs.List.{AllByRecursion};
 ghost use Rattle.align_base.specs.declared.output.Output.{Output};
@@ -53,7 +54,7 @@ impl State {
         Some(Difference::Byte(at))
     }
 
-    // The number of the first live output that differs.
+    /// The number of the first live output that differs.
     fn first_output(&self, other: &State, live: &[Output]) -> Option<u32>
         requires outputs { AllByRecursion IsOutput live.now }
         requires few { length live.now < 2 ^ 32 }
@@ -68,10 +69,11 @@ impl State {
         None
     }
 
-    // Whether an output is equal in both.
+    /// Whether an output is equal in both.
     fn agrees(&self, other: &State, output: Output) -> bool
         requires { IsOutput output }
-        ensures { MatchBool result (Agree (pure_of self.now) (pure_of other.now) output) (Agree (pure_of self.now) (pure_of other.now) output → ⊥) }
+        ensures { MatchBool result (Agree (pure_of self.now) (pure_of other.now) output)
+            (Agree (pure_of self.now) (pure_of other.now) output → ⊥) }
     {
         match output {
             Output::Reg { n, w } => low_bits(w, self.reg(n)) == low_bits(w, other.reg(n)),
@@ -82,7 +84,7 @@ impl State {
         }
     }
 
-    // The first address at which the bytes are compared and differ. A byte in no span is 0 in both.
+    /// The first address at which the bytes are compared and differ. A byte in no span is 0 in both.
     fn first_byte(&self, other: &State, scratch: &[(u64, u64)]) -> Option<u64>
         ensures none { IfNone result ((x : ℕ) → SameByte scratch.now (pure_of self.now) (pure_of other.now) x) }
         ensures some { IfSome result (IsFirstByte scratch.now (pure_of self.now) (pure_of other.now)) }
@@ -92,11 +94,13 @@ impl State {
         lesser(here, there)
     }
 
-    // The first of them in spans.
+    /// The first of them in spans.
     fn first_in_spans(&self, other: &State, scratch: &[(u64, u64)], spans: &[Span]) -> Option<u64>
         requires { AreOrdered 0 spans.now }
-        ensures none { IfNone result (AreSame (is_spanned spans.now) scratch.now (pure_of self.now) (pure_of other.now)) }
-        ensures some { IfSome result (IsFirstAmong (is_spanned spans.now) scratch.now (pure_of self.now) (pure_of other.now)) }
+        ensures none { IfNone result (AreSame (is_spanned spans.now)
+            scratch.now (pure_of self.now) (pure_of other.now)) }
+        ensures some { IfSome result (IsFirstAmong (is_spanned spans.now)
+            scratch.now (pure_of self.now) (pure_of other.now)) }
     {
         for span in spans {
             if let Some(at) = self.first_in_span(other, scratch, span) {
@@ -106,11 +110,13 @@ impl State {
         None
     }
 
-    // The first of them in a span.
+    /// The first of them in a span.
     fn first_in_span(&self, other: &State, scratch: &[(u64, u64)], span: &Span) -> Option<u64>
         requires { span.now.at + length span.now.bytes.items ≤ 2 ^ 64 }
-        ensures none { IfNone result (AreSame (spans_address span.now) scratch.now (pure_of self.now) (pure_of other.now)) }
-        ensures some { IfSome result (IsFirstAmong (spans_address span.now) scratch.now (pure_of self.now) (pure_of other.now)) }
+        ensures none { IfNone result (AreSame (spans_address span.now)
+            scratch.now (pure_of self.now) (pure_of other.now)) }
+        ensures some { IfSome result (IsFirstAmong (spans_address span.now)
+            scratch.now (pure_of self.now) (pure_of other.now)) }
         ensures within { IfSome result (λ at. at < span.now.at + length span.now.bytes.items) }
     {
         for i in 0..span.bytes.len() {
@@ -122,7 +128,7 @@ impl State {
         None
     }
 
-    // Whether the bytes at an address are compared and differ.
+    /// Whether the bytes at an address are compared and differ.
     fn differs_at(&self, other: &State, scratch: &[(u64, u64)], at: u64) -> bool
         ensures { MatchBool result (OtherByte scratch.now (pure_of self.now) (pure_of other.now) at)
             (SameByte scratch.now (pure_of self.now) (pure_of other.now) at) }
@@ -130,7 +136,7 @@ impl State {
         self.byte(at) != other.byte(at) && !self.is_in_stack(at) && !is_in_scratch(scratch, at)
     }
 
-    // Whether the address lies in the stack range.
+    /// Whether the address lies in the stack range.
     fn is_in_stack(&self, at: u64) -> bool
         ensures { MatchBool result (IsInStack (pure_of self.now) at) (IsInStack (pure_of self.now) at → ⊥) }
     {
@@ -139,7 +145,7 @@ impl State {
     }
 }
 
-// Whether the address lies in a scratch line.
+/// Whether the address lies in a scratch line.
 fn is_in_scratch(scratch: &[(u64, u64)], at: u64) -> bool
     ensures { result ≡ difference.is_in_scratch scratch.now at }
 {
@@ -148,7 +154,7 @@ fn is_in_scratch(scratch: &[(u64, u64)], at: u64) -> bool
         .any(|(base, len)| at.wrapping_sub(*base) < *len)
 }
 
-// The lesser of two numbers, or the only one.
+/// The lesser of two numbers, or the only one.
 fn lesser(a: Option<u64>, b: Option<u64>) -> Option<u64>
     ensures { result ≡ differing.lesser a b }
 {

@@ -1,16 +1,17 @@
+//! Laws of steps, runs and memory, as contracts of functions that do nothing.
 ghost use Rattle.std.specs.Prelude.{◌≡◌, ℕ, ◌+◌, ◌*◌, ◌%◌, ◌^◌, ◌<◌, ◌≤◌, true, false, List, Option, length, max, slice_index};
 ghost use Rattle.insn_table.specs.declared.insn.Insn.{Insn};
 ghost use Rattle.insn_table.specs.Plain.{IsPlain};
 ghost use Rattle.insn_table.specs.Closed.{IsClosed};
 ghost use Rattle.machine.specs.Difference.{SamePlainEnd};
-ghost use Rattle.machine.specs.Equivalent.{AreEquivalent};
+ghost use Rattle.runs.specs.Equivalent.{AreEquivalent};
 ghost use Rattle.machine.specs.Frame.{SameFrame, SameUnwritable};
 ghost use Rattle.machine.specs.Machine.{IsPlainStart, IsState, Machine, offset_from};
 ghost use Rattle.machine.specs.Memory.{bytes_at, bytes_of_number, number_of_bytes, with_bytes};
-ghost use Rattle.machine.specs.Path.{Arrived, Back, FallsAtFirst, FallsWithin, Fell, Through, allowed_along, way};
-ghost use Rattle.machine.specs.Run.{Goes, IsOver, later, run_of};
-ghost use Rattle.machine.specs.declared.state.RunEnd.{RunEnd};
-ghost use Rattle.machine.specs.declared.state.RunEnd.TheVariants.{Returned, Running};
+ghost use Rattle.runs.specs.Path.{Arrived, Back, FallsAtFirst, FallsWithin, Fell, Through, allowed_along, way};
+ghost use Rattle.runs.specs.Run.{Goes, IsOver, later, run_of};
+ghost use Rattle.runs.specs.declared.ends.RunEnd.{RunEnd};
+ghost use Rattle.runs.specs.declared.ends.RunEnd.TheVariants.{Returned, Running};
 ghost use Rattle.machine.specs.Step.{allows_step, free_step, step_of};
 ghost use Rattle.machine.specs.Straight.{LeaveTheSame, OnlyReturns};
 
@@ -27,8 +28,8 @@ pub fn plain_functions_return(f: &Function)
 /// leave the same in %rax. It does nothing.
 pub fn plain_functions_agree(f: &Function, g: &Function)
     requires { LeaveTheSame f.now.insns g.now.insns }
-    ensures { (pool_f pool_g : List ℕ) → AreEquivalent IsPlainStart SamePlainEnd (2 * max (length f.now.insns) (length g.now.insns))
-        (step_of f.now.insns pool_f) (step_of g.now.insns pool_g) }
+    ensures { (pool_f pool_g : List ℕ) → AreEquivalent IsPlainStart SamePlainEnd
+        (2 * max (length f.now.insns) (length g.now.insns)) (step_of f.now.insns pool_f) (step_of g.now.insns pool_g) }
 {}
 
 /// The laws of runs, which hold of every step: a run that is over stays as it is, and a run of l + m
@@ -36,7 +37,8 @@ pub fn plain_functions_agree(f: &Function, g: &Function)
 pub fn run_law()
     ensures over { (insns : List Insn) (pool : List ℕ) (s t : Machine) (e : RunEnd) (n k : ℕ) → IsOver e
         → run_of (step_of insns pool) s n ≡ (t, e) → run_of (step_of insns pool) s (n + k) ≡ (t, e) }
-    ensures parts { (insns : List Insn) (pool : List ℕ) (s t : Machine) (l m : ℕ) → run_of (step_of insns pool) s l ≡ (t, Running)
+    ensures parts { (insns : List Insn) (pool : List ℕ) (s t : Machine) (l m : ℕ)
+        → run_of (step_of insns pool) s l ≡ (t, Running)
         → run_of (step_of insns pool) s (l + m) ≡ later l (run_of (step_of insns pool) t m) }
 {}
 
@@ -50,7 +52,8 @@ pub fn path_law()
     ensures falls { (insns : List Insn) (pool : List ℕ) (path : List ℕ) (next : Option ℕ) (s : Machine)
         → Arrived (way (λ t. t.place) (free_step insns pool) path next s)
         → allowed_along (allows_step insns) (free_step insns pool) path s ≡ false
-        → (way (λ t. t.place) (step_of insns pool) path next s ≡ Fell) × FallsAtFirst (allows_step insns) (free_step insns pool) path s }
+        → (way (λ t. t.place) (step_of insns pool) path next s ≡ Fell)
+        × FallsAtFirst (allows_step insns) (free_step insns pool) path s }
 {}
 
 /// The law of what a way says of the run: one that is through still goes on after as many steps as
@@ -64,7 +67,8 @@ pub fn way_law()
         → way (λ u. u.place) (step_of insns pool) path next s ≡ Back t
         → run_of (step_of insns pool) s (length path) ≡ (t, Returned (length path)) }
     ensures fell { (insns : List Insn) (pool : List ℕ) (path : List ℕ) (next : Option ℕ) (s : Machine)
-        → way (λ u. u.place) (step_of insns pool) path next s ≡ Fell → FallsWithin (step_of insns pool) s (length path) }
+        → way (λ u. u.place) (step_of insns pool) path next s ≡ Fell
+        → FallsWithin (step_of insns pool) s (length path) }
 {}
 
 /// The law of a memory: bytes that were written are read back, each byte past them stays as it was,
@@ -77,23 +81,36 @@ pub fn memory_law()
     ensures number { (n word : ℕ) → number_of_bytes (bytes_of_number n word) ≡ word % 256 ^ n }
 {}
 
-/// The law of what a step and a run leave as it was: the entry registers, the regions, the stack
-/// range and the vectors; and, in a closed function, each byte of the memory that neither lies in a
-/// region that may be written nor among the declared stack bytes. It does nothing.
+/// The law of what a step and a run leave as it was, with any instructions and pool: the entry
+/// registers, the regions, the stack range and the vectors, under the tests and also freely. In a
+/// closed function a step and a run under the tests, and a free step whose tests hold, leave each byte
+/// of the memory that neither lies in a region that may be written nor among the declared stack bytes.
+/// It does nothing.
 pub fn step_frame_law()
     ensures step { (insns : List Insn) (pool : List ℕ) (s t : Machine) → step_of insns pool s ≡ Goes t → SameFrame s t }
-    ensures step_memory { (insns : List Insn) (pool : List ℕ) (s t : Machine) → IsClosed insns → step_of insns pool s ≡ Goes t
-        → SameUnwritable s t }
-    ensures run { (insns : List Insn) (pool : List ℕ) (s : Machine) (n : ℕ) → SameFrame s (run_of (step_of insns pool) s n).0 }
+    ensures step_memory { (insns : List Insn) (pool : List ℕ) (s t : Machine) → IsClosed insns
+        → step_of insns pool s ≡ Goes t → SameUnwritable s t }
+    ensures run { (insns : List Insn) (pool : List ℕ) (s : Machine) (n : ℕ)
+        → SameFrame s (run_of (step_of insns pool) s n).0 }
     ensures run_memory { (insns : List Insn) (pool : List ℕ) (s : Machine) (n : ℕ) → IsClosed insns
         → SameUnwritable s (run_of (step_of insns pool) s n).0 }
+    ensures free_step { (insns : List Insn) (pool : List ℕ) (s t : Machine) → free_step insns pool s ≡ Goes t
+        → SameFrame s t }
+    ensures free_step_memory { (insns : List Insn) (pool : List ℕ) (s t : Machine) → IsClosed insns
+        → allows_step insns s ≡ true → free_step insns pool s ≡ Goes t → SameUnwritable s t }
+    ensures free_run { (insns : List Insn) (pool : List ℕ) (s : Machine) (n : ℕ)
+        → SameFrame s (run_of (free_step insns pool) s n).0 }
 {}
 
 /// The law that a step and a run of a closed function, whose pool holds bytes, keep the values of a
-/// state in their ranges. It does nothing.
+/// state in their ranges, under the tests and also freely. It does nothing.
 pub fn state_law()
-    ensures step { (insns : List Insn) (pool : List ℕ) (s t : Machine) → IsClosed insns → ((at : ℕ) → slice_index pool at < 256)
-        → IsState s → step_of insns pool s ≡ Goes t → IsState t }
-    ensures run { (insns : List Insn) (pool : List ℕ) (s : Machine) (n : ℕ) → IsClosed insns → ((at : ℕ) → slice_index pool at < 256)
-        → IsState s → IsState (run_of (step_of insns pool) s n).0 }
+    ensures step { (insns : List Insn) (pool : List ℕ) (s t : Machine) → IsClosed insns
+        → ((at : ℕ) → slice_index pool at < 256) → IsState s → step_of insns pool s ≡ Goes t → IsState t }
+    ensures run { (insns : List Insn) (pool : List ℕ) (s : Machine) (n : ℕ) → IsClosed insns
+        → ((at : ℕ) → slice_index pool at < 256) → IsState s → IsState (run_of (step_of insns pool) s n).0 }
+    ensures free_step { (insns : List Insn) (pool : List ℕ) (s t : Machine) → IsClosed insns
+        → ((at : ℕ) → slice_index pool at < 256) → IsState s → free_step insns pool s ≡ Goes t → IsState t }
+    ensures free_run { (insns : List Insn) (pool : List ℕ) (s : Machine) (n : ℕ) → IsClosed insns
+        → ((at : ℕ) → slice_index pool at < 256) → IsState s → IsState (run_of (free_step insns pool) s n).0 }
 {}

@@ -1,3 +1,4 @@
+//! What the code reads of an instruction: its operands, their widths, its family and its condition.
 ghost use Rattle.std.specs.Prelude.{◌≡◌, ◌+◌, ◌%◌, ◌*◌, ◌^◌, ◌<◌};
 ghost use Rattle.insn_table.specs.Forms.{is_nothing};
 ghost use Rattle.machine.specs.Access as access;
@@ -130,7 +131,7 @@ pub fn width_at(insn: &Insn, k: usize) -> u32
 
 /// The operand that a row writes.
 pub fn target(insn: &Insn) -> Operand
-    ensures { result ≡ steps.target_of insn.now.op insn.now }
+    ensures { result ≡ steps.target_operand insn.now.op insn.now }
 {
     match insn.op {
         Op::Cltq => Operand::Reg { n: 0, w: 64 },
@@ -140,7 +141,7 @@ pub fn target(insn: &Insn) -> Operand
 
 /// The operand that a row's destination is read from.
 pub fn destination(insn: &Insn) -> Operand
-    ensures { result ≡ steps.destination_of insn.now.op insn.now }
+    ensures { result ≡ steps.destination_operand insn.now.op insn.now }
 {
     match insn.op {
         Op::Cltq => Operand::Reg { n: 0, w: 64 },
@@ -154,7 +155,7 @@ pub fn destination(insn: &Insn) -> Operand
 
 /// The operand that a row's source is read from.
 pub fn source(insn: &Insn) -> Operand
-    ensures { result ≡ steps.source_of insn.now.op insn.now }
+    ensures { result ≡ steps.source_operand insn.now.op insn.now }
 {
     match insn.op {
         Op::Cltq => Operand::Reg { n: 0, w: 32 },
@@ -204,10 +205,10 @@ pub fn low_bits(w: u32, x: u64) -> u64
 }
 
 /// A register after a write of `w` bits: 8 and 16 leave the other bits, 32 and 64 leave none.
-pub fn merged(w: u32, old: u64, word: u64) -> u64
+pub fn register_after(w: u32, old: u64, word: u64) -> u64
     requires width { IsWidth w }
     requires word { word < 2 ^ w }
-    ensures { result ≡ operands.merged w old word }
+    ensures { result ≡ operands.register_after w old word }
 {
     match w {
         8 => old / 0x100 * 0x100 + word,

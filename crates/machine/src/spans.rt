@@ -1,3 +1,4 @@
+//! Memory kept as spans of bytes: bytes and words at addresses.
 ghost use Rattle.std.specs.Prelude.{◌≡◌, ℕ, ◌+◌, ◌-◌, ◌*◌, ◌/◌, ◌%◌, ◌^◌, ◌<◌, ◌≤◌, ◌==◌, ◌&&◌, ◌↔◌, IsTrue, IfOk, IfSome, IfNone, true, false, nat_le, nat_lt, length, slice_index, if◌then◌else◌};
 ghost use Rattle.machine.specs.Kept.{AreOrdered, byte_of, is_spanned, memory_of};
 ghost use Rattle.machine.specs.Memory.{word_at, with_word};
@@ -49,7 +50,7 @@ pub fn word_in(bytes: &[u8], from: usize, n: u32) -> u64
     word
 }
 
-// The same over spans, where the bytes may lie in several or in none.
+/// The same over spans, where the bytes may lie in several or in none.
 #[tactic(auto, using(crate::proofs::MemoryWords::memory_words))]
 fn word_by_bytes(spans: &[Span], at: u64, n: u32) -> u64
     requires { n ≤ 8 }
@@ -63,14 +64,14 @@ fn word_by_bytes(spans: &[Span], at: u64, n: u32) -> u64
     word
 }
 
-// The byte at a place of a list, and 0 past its end.
+/// The byte at a place of a list, and 0 past its end.
 fn byte_in(bytes: &[u8], at: usize) -> u8
     ensures { result ≡ slice_index bytes.now at }
 {
     if at < bytes.len() { bytes[at] } else { 0 }
 }
 
-// A word of `k` bytes with one more in front.
+/// A word of `k` bytes with one more as its highest.
 #[tactic(auto, using(crate::proofs::Bytewise::bytewise))]
 fn with_byte(word: u64, k: u32, byte: u8) -> u64
     requires place { k < 8 }
@@ -81,7 +82,7 @@ fn with_byte(word: u64, k: u32, byte: u8) -> u64
     word + ((byte as u64) << (8 * k))
 }
 
-// Byte `k` of a word.
+/// Byte `k` of a word.
 #[tactic(auto, using(crate::proofs::Bytewise::bytewise))]
 fn byte_of_word(word: u64, k: u32) -> u8
     requires { k < 8 }
@@ -90,7 +91,7 @@ fn byte_of_word(word: u64, k: u32) -> u8
     ((word >> (8 * k)) % 256) as u8
 }
 
-// Whether a span has the `n` bytes from an address on.
+/// Whether a span has the `n` bytes from an address on.
 fn has_bytes(span: &Span, at: u64, n: u64) -> bool
     ensures { IsTrue result ↔ ((span.now.at ≤ at) × (at + n ≤ span.now.at + length span.now.bytes.items)) }
 {
@@ -98,7 +99,7 @@ fn has_bytes(span: &Span, at: u64, n: u64) -> bool
     span.at <= at && n <= len && at - span.at <= len - n
 }
 
-// The number of the span that has the `n` bytes from an address on, where one has them all.
+/// The number of the span that has the `n` bytes from an address on, where one has them all.
 fn span_with(spans: &[Span], at: u64, n: u64) -> Option<usize>
     ensures some { IfSome result (λ i. HasBytes spans.now i at n) }
     ensures none { IfNone result (n ≡ 1 → is_spanned spans.now at ≡ false) }
@@ -123,7 +124,7 @@ pub fn put_word(spans: &mut Vec<Span>, at: u64, n: u32, word: u64)
     put_bytes(spans, at, n, word)
 }
 
-// The same, byte by byte of the memory below 2^64.
+/// The same, byte by byte of the memory below 2^64.
 #[tactic(auto, using(crate::proofs::MemoryWords::memory_words))]
 fn put_bytes(spans: &mut Vec<Span>, at: u64, n: u32, word: u64)
     requires few { n ≤ 8 }
@@ -140,12 +141,13 @@ fn put_bytes(spans: &mut Vec<Span>, at: u64, n: u32, word: u64)
     }
 }
 
-// Writes one byte.
+/// Writes one byte.
 #[tactic(auto, using(crate::proofs::MemoryWords::memory_words))]
 fn put_byte(spans: &mut Vec<Span>, at: u64, byte: u8)
     requires ordered { AreOrdered 0 spans.old.items }
     requires spanned { is_spanned spans.old.items at ≡ true }
-    ensures bytes { (x : ℕ) → x < 2 ^ 64 → byte_of spans.new.items x ≡ (if x == at then byte else byte_of spans.old.items x) }
+    ensures bytes { (x : ℕ) → x < 2 ^ 64
+        → byte_of spans.new.items x ≡ (if x == at then byte else byte_of spans.old.items x) }
     ensures places { places spans.new.items ≡ places spans.old.items }
 {
     if let Some(i) = span_with(spans, at, 1) {
@@ -153,7 +155,7 @@ fn put_byte(spans: &mut Vec<Span>, at: u64, byte: u8)
     }
 }
 
-// Writes the `n` low bytes of a word into a span that has their addresses.
+/// Writes the `n` low bytes of a word into a span that has their addresses.
 fn put_in_span(spans: &mut Vec<Span>, i: usize, at: u64, n: u32, word: u64)
     requires few { n ≤ 8 }
     requires ordered { AreOrdered 0 spans.old.items }
@@ -166,11 +168,12 @@ fn put_in_span(spans: &mut Vec<Span>, i: usize, at: u64, n: u32, word: u64)
     put_in(&mut span.bytes, from, n, word);
 }
 
-// Writes the `n` low bytes of a word into a list from `from` on.
+/// Writes the `n` low bytes of a word into a list from `from` on.
 fn put_in(bytes: &mut Vec<u8>, from: usize, n: u32, word: u64)
     requires few { n ≤ 8 }
     requires within { from + n ≤ length bytes.old.items }
-    ensures bytes { (x : ℕ) → slice_index bytes.new.items x ≡ (if nat_le from x && nat_lt (x - from) n then word / 256 ^ (x - from) % 256 else slice_index bytes.old.items x) }
+    ensures bytes { (x : ℕ) → slice_index bytes.new.items x ≡ (if nat_le from x && nat_lt (x - from) n
+        then word / 256 ^ (x - from) % 256 else slice_index bytes.old.items x) }
     ensures length { length bytes.new.items ≡ length bytes.old.items }
 {
     for k in 0..n {
@@ -184,14 +187,8 @@ pub fn copy_spans(alloc: Global, spans: &[Span]) -> Result<Vec<Span>, Memory>
 {
     let mut copied = Vec::new(alloc);
     for span in spans {
-        let bytes = match Vec::from_slice(alloc, &span.bytes) {
-            Ok(bytes) => bytes,
-            Err(_) => return Err(Memory),
-        };
-        let pushed = copied.push(Span { at: span.at, bytes });
-        if pushed.is_err() {
-            return Err(Memory);
-        }
+        let bytes = Vec::from_slice(alloc, &span.bytes)?;
+        copied.push(Span { at: span.at, bytes })?;
     }
     Ok(copied)
 }

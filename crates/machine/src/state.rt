@@ -1,14 +1,15 @@
+//! The state of the machine, its steps and its runs.
 ghost use Rattle.std.specs.Prelude.{◌≡◌, ℕ, ◌+◌, ◌-◌, ◌*◌, ◌/◌, ◌%◌, ◌^◌, ◌<◌, ◌≤◌, Some, IfOk, IfSome, slice_get, slice_index, true, false, length, if◌then◌else◌};
 ghost use Rattle.std.specs.List.{list_all};
 ghost use Rattle.machine.specs.Access as access;
 ghost use Rattle.machine.specs.Family.{holds_of};
 ghost use Rattle.machine.specs.Machine.{IsStart, offset_from};
 ghost use Rattle.machine.specs.Operands as operands;
-ghost use Rattle.machine.specs.Ready.{completed, IsReady};
+ghost use Rattle.machine.specs.Ready.{finished_row, IsReady};
 ghost use Rattle.machine.specs.Spanned.{IsSpanned};
-ghost use Rattle.machine.specs.Run.{run_of};
+ghost use Rattle.runs.specs.Run.{run_of};
 ghost use Rattle.machine.specs.Step as steps;
-ghost use Rattle.machine.specs.Stepping.{StepsAs};
+ghost use Rattle.runs.specs.Stepping.{StepsAs};
 ghost use Rattle.instruction_semantics.specs.Words.{bit};
 ghost use Rattle.machine.specs.Runnable.{HasRowOf, IsRunnable, IsWidth};
 ghost use Rattle.insn_table.specs.Closed.{IsClosed};
@@ -17,8 +18,8 @@ ghost use Rattle.machine.specs.Kept.{AreOrdered, IsKept, pure_of};
 ghost use Rattle.machine.specs.Start.{IsCopy, kept_start};
 
 use crate::operands::{
-    Family, arity, condition, destination, displacement_of, jump_place, low_bits, merged,
-    op_family, operand, register_number, source, source_width, target, width_at, writes,
+    Family, arity, condition, destination, displacement_of, jump_place, low_bits, op_family,
+    operand, register_after, register_number, source, source_width, target, width_at, writes,
 };
 use crate::ranges::{are_regs, are_vecs, spans_hold_bytes};
 use crate::spans::{byte_at, copy_spans, put_word, word_in, word_of};
@@ -26,31 +27,9 @@ use align_base::{Flags, Memory};
 use insn_table::{Function, Insn, Op, Operand};
 use lane_ops::{flags, scalar};
 use lane_views::Bytes32;
+use runs::{RunEnd, StepEnd};
 use std::alloc::Global;
 use std::marker::Model;
-
-/// How a step ended.
-#[derive(Clone, Copy, Debug, PartialEq, Eq)]
-pub enum StepEnd {
-    /// The next instruction follows.
-    Next,
-    /// The function returned.
-    Return,
-    /// An access or a return was not allowed.
-    Fault,
-    /// A flag was read that is not set.
-    Unset,
-}
-
-/// How a run ended, with the number of the step that ended it, counted from 1.
-#[derive(Clone, Copy, Debug, PartialEq, Eq)]
-pub enum RunEnd {
-    Returned(u64),
-    Faulted(u64),
-    Unset(u64),
-    /// It has not ended yet.
-    Running,
-}
 
 /// A region of memory: `len` bytes from `base` on, which may be read, and written where `write` is.
 #[derive(Clone, Copy, Debug, PartialEq, Eq)]
@@ -137,10 +116,7 @@ impl State {
         ensures { IfOk result (IsCopy self.now) }
     {
         let spans = copy_spans(alloc, &self.spans)?;
-        let regions = match Vec::from_slice(alloc, &self.regions) {
-            Ok(regions) => regions,
-            Err(_) => return Err(Memory),
-        };
+        let regions = Vec::from_slice(alloc, &self.regions)?;
         Ok(State {
             regs: self.regs,
             entry: self.entry,
@@ -184,7 +160,7 @@ impl State {
         byte_at(&self.spans, at)
     }
 
-    // The spans, in order and apart.
+    /// The spans, in order and apart.
     pub(crate) fn spans(&self) -> &[Span]
         ensures spans { result.now ≡ self.now.spans }
         ensures ordered { AreOrdered 0 result.now }
@@ -192,7 +168,7 @@ impl State {
         &self.spans
     }
 
-    // How many declared stack bytes there are.
+    /// How many declared stack bytes there are.
     pub(crate) fn stack(&self) -> u64
         ensures value { result ≡ self.now.stack }
         ensures small { result ≤ 4096 }
@@ -208,12 +184,12 @@ impl State {
     }
 }
 
-// What a step reads.
+/// What a step reads.
 impl State {
-    // What a base or an index adds to an address.
-    fn held(&self, n: Option<u8>) -> u64
+    /// What a base or an index adds to an address.
+    fn register_or_zero(&self, n: Option<u8>) -> u64
         requires { IfSome n (λ r. r < 16) }
-        ensures { result ≡ operands.held self.now.regs n }
+        ensures { result ≡ operands.register_or_zero self.now.regs n }
     {
         match n {
             None => 0,
@@ -221,7 +197,7 @@ impl State {
         }
     }
 
-    // The address of a memory operand, 0 of another.
+    /// The address of a memory operand, 0 of another.
     fn address(&self, operand: Operand) -> u64
         requires { HasRegisters operand }
         ensures { result ≡ operands.address_of self.now.regs operand }
@@ -233,14 +209,14 @@ impl State {
                 scale,
                 disp,
             } => self
-                .held(base)
-                .wrapping_add(self.held(index).wrapping_mul(scale as u64))
+                .register_or_zero(base)
+                .wrapping_add(self.register_or_zero(index).wrapping_mul(scale as u64))
                 .wrapping_add(displacement_of(disp)),
             _ => 0,
         }
     }
 
-    // What an operand of `w` bits holds.
+    /// What an operand of `w` bits holds.
     fn value(&self, pool: &[u8], w: u32, operand: Operand) -> u64
         requires width { IsWidth w }
         requires numbers { HasRegisters operand }
@@ -257,7 +233,7 @@ impl State {
         }
     }
 
-    // Whether some region has the bytes and the right.
+    /// Whether some region has the bytes and the right.
     fn may_access(&self, at: u64, bytes: u32, write: bool) -> bool
         ensures { result ≡ access.is_allowed (pure_of self.now) (record { at = at; bytes = bytes; write = write }) }
     {
@@ -265,11 +241,12 @@ impl State {
             && has_access(region, at, bytes as u64))
     }
 
-    // Whether operand `k` may be accessed, if it is in memory.
+    /// Whether operand `k` may be accessed, if it is in memory.
     fn allows_operand(&self, insn: &Insn, k: usize) -> bool
         requires small { k < 3 }
         requires numbers { (k : ℕ) → HasRegisters (operands.operand insn.now k) }
-        ensures { result ≡ list_all (access.is_allowed (pure_of self.now)) (access.access_at insn.now (pure_of self.now) k) }
+        ensures { result ≡ list_all (access.is_allowed (pure_of self.now))
+            (access.access_at insn.now (pure_of self.now) k) }
     {
         let operand = operand(insn, k);
         match operand {
@@ -282,15 +259,16 @@ impl State {
         }
     }
 
-    // Whether each operand in memory may be accessed.
+    /// Whether each operand in memory may be accessed.
     fn allows_operands(&self, insn: &Insn) -> bool
         requires numbers { (k : ℕ) → HasRegisters (operands.operand insn.now k) }
-        ensures { result ≡ list_all (access.is_allowed (pure_of self.now)) (access.operand_accesses insn.now (pure_of self.now)) }
+        ensures { result ≡ list_all (access.is_allowed (pure_of self.now))
+            (access.operand_accesses insn.now (pure_of self.now)) }
     {
         self.allows_operand(insn, 0) && self.allows_operand(insn, 1) && self.allows_operand(insn, 2)
     }
 
-    // Whether eight bytes lie among the declared stack bytes.
+    /// Whether eight bytes lie among the declared stack bytes.
     fn is_on_stack(&self, at: u64) -> bool
         ensures { result ≡ access.is_on_stack (pure_of self.now) at }
     {
@@ -298,7 +276,7 @@ impl State {
         self.stack >= 8 && at.wrapping_sub(base) <= self.stack - 8
     }
 
-    // Whether the instruction's tests hold.
+    /// Whether the instruction's tests hold.
     fn allows(&self, family: Family, insn: &Insn) -> bool
         requires numbers { (k : ℕ) → HasRegisters (operands.operand insn.now k) }
         ensures { result ≡ access.allows_by family insn.now (pure_of self.now) }
@@ -313,9 +291,9 @@ impl State {
     }
 }
 
-// What a step changes.
+/// What a step changes.
 impl State {
-    // Writes the `w` bits of a word to an operand.
+    /// Writes the `w` bits of a word to an operand.
     fn put(&mut self, target: Operand, w: u32, word: u64)
         requires width { IsWidth w }
         requires word { word < 2 ^ w }
@@ -327,7 +305,7 @@ impl State {
         match target {
             Operand::Reg { n, .. } => {
                 let old = self.regs[n as usize];
-                self.regs[n as usize] = merged(w, old, word);
+                self.regs[n as usize] = register_after(w, old, word);
             }
             Operand::Mem { .. } => {
                 let at = self.address(target);
@@ -337,14 +315,16 @@ impl State {
         }
     }
 
-    // Writes a row's result, where the operation writes one.
+    /// Writes a row's result, where the operation writes one.
     fn put_result(&mut self, insn: &Insn, word: u64)
         requires width { IsWidth insn.now.w }
         requires word { word < 2 ^ insn.now.w }
         requires numbers { (n : ℕ) → HasRegisters (operands.operand insn.now n) }
-        requires spanned { access.writes insn.now.op ≡ true → IsSpanned self.old insn.now.w (steps.target_of insn.now.op insn.now) }
+        requires spanned { access.writes insn.now.op ≡ true
+            → IsSpanned self.old insn.now.w (steps.target_operand insn.now.op insn.now) }
         ensures state { pure_of self.new ≡ (if access.writes insn.now.op
-            then operands.with_value insn.now.w (pure_of self.old) (steps.target_of insn.now.op insn.now) word else pure_of self.old) }
+            then operands.with_value insn.now.w (pure_of self.old) (steps.target_operand insn.now.op insn.now) word
+            else pure_of self.old) }
         ensures place { self.new.place ≡ self.old.place }
     {
         if writes(insn.op) {
@@ -352,19 +332,20 @@ impl State {
         }
     }
 
-    // Ends a row: its result and its flags.
+    /// Ends a row: its result and its flags.
     fn complete(&mut self, insn: &Insn, word: u64, flags: Flags)
         requires width { IsWidth insn.now.w }
         requires word { word < 2 ^ insn.now.w }
         requires numbers { (n : ℕ) → HasRegisters (operands.operand insn.now n) }
-        requires spanned { access.writes insn.now.op ≡ true → IsSpanned self.old insn.now.w (steps.target_of insn.now.op insn.now) }
-        ensures { pure_of self.new ≡ completed insn.now (pure_of self.old) word flags }
+        requires spanned { access.writes insn.now.op ≡ true
+            → IsSpanned self.old insn.now.w (steps.target_operand insn.now.op insn.now) }
+        ensures { pure_of self.new ≡ finished_row insn.now (pure_of self.old) word flags }
     {
         self.put_result(insn, word);
         self.flags = flags;
     }
 
-    // What a row's destination holds.
+    /// What a row's destination holds.
     #[tactic(auto, using(crate::proofs::Targets::targets))]
     fn destination_value(&self, pool: &[u8], insn: &Insn) -> u64
         requires width { IsWidth insn.now.w }
@@ -375,20 +356,20 @@ impl State {
         self.value(pool, insn.w, destination(insn))
     }
 
-    // What a row's source holds, but for `lea`.
+    /// What a row's source holds, but for `lea`.
     #[tactic(auto, using(crate::proofs::Targets::targets))]
     fn source_value(&self, pool: &[u8], insn: &Insn) -> u64
         requires width { IsWidth insn.now.w }
         requires numbers { (n : ℕ) → HasRegisters (operands.operand insn.now n) }
         requires row { HasRowOf insn.now.op insn.now }
-        ensures value { result ≡ operands.value_of pool.now (access.source_width insn.now.op insn.now.w) (pure_of self.now)
-            (steps.source_of insn.now.op insn.now) }
+        ensures value { result ≡ operands.value_of pool.now (access.source_width insn.now.op insn.now.w)
+            (pure_of self.now) (steps.source_operand insn.now.op insn.now) }
         ensures below { result < 2 ^ access.source_width insn.now.op insn.now.w }
     {
         self.value(pool, source_width(insn.op, insn.w), source(insn))
     }
 
-    // A computing row.
+    /// A computing row.
     fn compute(&mut self, pool: &[u8], insn: &Insn)
         requires { IsReady Family.Computing insn.now self.old }
         ensures { pure_of self.new ≡ steps.after_row pool.now insn.now (pure_of self.old) 0 }
@@ -400,7 +381,7 @@ impl State {
         self.complete(insn, word, after);
     }
 
-    // `lea`: the source's address.
+    /// `lea`: the source's address.
     fn load_address(&mut self, pool: &[u8], insn: &Insn)
         requires { IsReady Family.Address insn.now self.old }
         ensures { pure_of self.new ≡ steps.after_row pool.now insn.now (pure_of self.old) 0 }
@@ -410,7 +391,7 @@ impl State {
         self.complete(insn, word, flags);
     }
 
-    // A move by condition, which writes the old value where the condition does not hold.
+    /// A move by condition, which writes the old value where the condition does not hold.
     fn choose(&mut self, pool: &[u8], insn: &Insn, holds: bool)
         requires { IsReady Family.Choice insn.now self.old }
         ensures { pure_of self.new ≡ steps.after_row pool.now insn.now (pure_of self.old) (bit holds) }
@@ -422,7 +403,7 @@ impl State {
         self.complete(insn, word, flags);
     }
 
-    // A byte set by condition.
+    /// A byte set by condition.
     fn set(&mut self, pool: &[u8], insn: &Insn, holds: bool)
         requires { IsReady Family.Setting insn.now self.old }
         ensures { pure_of self.new ≡ steps.after_row pool.now insn.now (pure_of self.old) (bit holds) }
@@ -432,10 +413,10 @@ impl State {
         self.complete(insn, word, flags);
     }
 
-    // `push`: the old value, also of the stack pointer itself.
+    /// `push`: the old value, also of the stack pointer itself.
     fn push(&mut self, insn: &Insn)
         requires { IsReady Family.Pushing insn.now self.old }
-        ensures { pure_of self.new ≡ steps.pushed insn.now (pure_of self.old) }
+        ensures { pure_of self.new ≡ steps.after_push insn.now (pure_of self.old) }
     {
         let n = register_number(operand(insn, 0));
         let value = self.regs[n as usize];
@@ -444,10 +425,10 @@ impl State {
         self.regs[4] = below;
     }
 
-    // `pop`: into the stack pointer, the value read stays.
+    /// `pop`: into the stack pointer, the value read stays.
     fn pop(&mut self, insn: &Insn)
         requires { IsReady Family.Popping insn.now self.old }
-        ensures { pure_of self.new ≡ steps.popped insn.now (pure_of self.old) }
+        ensures { pure_of self.new ≡ steps.after_pop insn.now (pure_of self.old) }
     {
         let n = register_number(operand(insn, 0));
         let at = self.regs[4];
@@ -456,11 +437,11 @@ impl State {
         self.regs[n as usize] = value;
     }
 
-    // How an instruction whose tests hold changes registers, flags and memory, where its condition has
-    // this value.
+    /// How an instruction whose tests hold changes registers, flags and memory, where its condition has
+    /// this value.
     fn change(&mut self, family: Family, pool: &[u8], insn: &Insn, holds: bool)
         requires { IsReady family insn.now self.old }
-        ensures { pure_of self.new ≡ steps.changed family pool.now insn.now (pure_of self.old) holds }
+        ensures { pure_of self.new ≡ steps.after_change family pool.now insn.now (pure_of self.old) holds }
     {
         match family {
             Family::Computing => self.compute(pool, insn),
@@ -473,7 +454,7 @@ impl State {
         }
     }
 
-    // Where it leads: `None` where it returns.
+    /// Where it leads: `None` where it returns.
     fn leads_to(&self, family: Family, insn: &Insn, holds: bool) -> Option<u32>
         requires next { self.now.place + 1 < 2 ^ 32 }
         ensures { result ≡ steps.leads_to family insn.now self.now.place holds }
@@ -491,11 +472,12 @@ impl State {
         }
     }
 
-    // An instruction whose tests hold and whose condition has this value.
+    /// An instruction whose tests hold and whose condition has this value.
     fn execute(&mut self, family: Family, pool: &[u8], insn: &Insn, holds: bool) -> StepEnd
         requires ready { IsReady family insn.now self.old }
         requires next { self.old.place + 1 < 2 ^ 32 }
-        ensures { StepsAs (steps.goes family pool.now insn.now (pure_of self.old) holds) (pure_of self.old) result (pure_of self.new) }
+        ensures { StepsAs (steps.goes family pool.now insn.now (pure_of self.old) holds) (pure_of self.old) result
+            (pure_of self.new) }
     {
         let Some(place) = self.leads_to(family, insn, holds) else {
             return StepEnd::Return;
@@ -505,8 +487,8 @@ impl State {
         StepEnd::Next
     }
 
-    // The value of the operation's condition, `None` where a flag that it reads is unset. An operation
-    // without one has any value.
+    /// The value of the operation's condition, `None` where a flag that it reads is unset. An operation
+    /// without one has any value.
     fn condition_value(&self, op: Op) -> Option<bool>
         ensures { result ≡ holds_of op self.now.flags }
     {
@@ -516,11 +498,12 @@ impl State {
         }
     }
 
-    // Runs an instruction.
+    /// Runs an instruction.
     fn run_insn(&mut self, pool: &[u8], insn: &Insn) -> StepEnd
         requires runnable { (n : ℕ) × IsRunnable n insn.now }
         requires next { self.old.place + 1 < 2 ^ 32 }
-        ensures { StepsAs (steps.insn_step pool.now insn.now (pure_of self.old)) (pure_of self.old) result (pure_of self.new) }
+        ensures { StepsAs (steps.insn_step pool.now insn.now (pure_of self.old)) (pure_of self.old) result
+            (pure_of self.new) }
     {
         let Some(holds) = self.condition_value(insn.op) else {
             return StepEnd::Unset;
@@ -536,7 +519,8 @@ impl State {
     pub fn step(&mut self, f: &Function) -> StepEnd
         requires closed { IsClosed f.now.insns }
         requires inside { self.old.place < length f.now.insns }
-        ensures steps { StepsAs (steps.step_of f.now.insns f.now.pool (pure_of self.old)) (pure_of self.old) result (pure_of self.new) }
+        ensures steps { StepsAs (steps.step_of f.now.insns f.now.pool (pure_of self.old)) (pure_of self.old) result
+            (pure_of self.new) }
         ensures inside { self.new.place < length f.now.insns }
     {
         let insn = f.insns.as_slice()[self.place as usize];
@@ -562,7 +546,7 @@ impl State {
     }
 }
 
-// Whether the region has the bytes.
+/// Whether the region has the bytes.
 fn has_access(region: &Region, at: u64, bytes: u64) -> bool
     ensures { result ≡ access.holds_access region.now (record { at = at; bytes = bytes; write = false }) }
 {

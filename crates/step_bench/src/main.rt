@@ -1,4 +1,4 @@
-//! Runs a loop of four instructions, two of which access memory, for as many steps as its word says,
+//! Runs a loop of four instructions, two of which access memory, for as many steps as its argument says,
 //! and prints how the run ended and what the loop has summed up. `bench/steps.sh` times it.
 #![tactic(auto)]
 
@@ -12,10 +12,10 @@ use std::process::ExitCode;
 use std::rt::Env;
 use std::{env, io};
 
-/// How many steps the first word asks for.
+/// How many steps the first argument asks for.
 fn steps<R: Env + AllocGlobal>(rt: &R) -> Option<u64> {
-    let mut words = env::args(rt).ok()?.skip(1);
-    words.next()?.as_str().parse::<u64>().ok()
+    let mut arguments = env::args(rt).ok()?.skip(1);
+    arguments.next()?.as_str().parse::<u64>().ok()
 }
 
 /// The exit code after a line was printed, 1 where it could not be.
@@ -30,11 +30,12 @@ fn main(rt: HostRuntime) -> ExitCode {
     let Some(n) = steps(&rt) else {
         return told(println!(rt; "usage: step_bench STEPS"), 2);
     };
-    let Ok(function) = endless_loop(rt.alloc()) else {
-        return told(println!(rt; "not built"), 1);
+    let function = match endless_loop(rt.alloc()) {
+        Ok(function) => function,
+        Err(error) => return told(println!(rt; "step_bench: {error}"), 1),
     };
     let Ok(mut state) = start_state(rt.alloc()) else {
-        return told(println!(rt; "not built"), 1);
+        return told(println!(rt; "step_bench: out of memory"), 1);
     };
     let end = match state.run(&function, n) {
         RunEnd::Returned(at) => println!(rt; "returned at {at}"),

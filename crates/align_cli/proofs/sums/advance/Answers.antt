@@ -1,7 +1,7 @@
 use Rattle.std.proofs.Common.{◌≡◌, ◌∙◌, ap, get_or, arith}
 use Rattle.std.proofs.lemmas.Option.{slice_get-get_or}
 use Rattle.insn_table.specs.declared.insn.Operand.TheVariants.{Reg}
-use Rattle.machine.specs.Straight.{computed}
+use Rattle.machine.specs.Straight.{plain_result}
 use Rattle.align_cli.specs.Sums.{sum_value}
 use Rattle.align_cli.proofs.Tracking.{regs_after-move, set-tracks}
 use Rattle.align_cli.proofs.sums.advance.Goals as goal
@@ -14,5 +14,5 @@ returns-in-Reg c = λ start regs t.
     let source = rw m.move.args at (c.source_sum-source.ensures start regs t) in
     let old = t.holds n _ (slice_get-get_or c.args.sums.now n _ (omega (arith, writes.0))) in
     rw (regs_after-move i m.source m.target n c.in-Reg.w regs m.move.args target_is)
-    (set-tracks c.args.sums.now start regs n c.computed.result _ c.requires.sixteen writes.0 t
-    (c.computed.ensures start ∙ ap (λ v. computed i.op v (sum_value c.source_sum-source.result start)) old ∙ ap (λ v. computed i.op (get_or regs n 0) v) source))
+    (set-tracks c.args.sums.now start regs n c.plain_result.result _ c.requires.sixteen writes.0 t
+    (c.plain_result.ensures start ∙ ap (λ v. plain_result i.op v (sum_value c.source_sum-source.result start)) old ∙ ap (λ v. plain_result i.op (get_or regs n 0) v) source))

@@ -1,6 +1,6 @@
 use Rattle.std.proofs.Common.{◌≤◌, ◌^◌, arith}
 use Rattle.instruction_semantics.proofs.WordLaws.{power_grows}
-use Rattle.lane_ops.proofs.Masks.{extended_below}
+use Rattle.lane_ops.proofs.Masks.{copies_below}
 use Rattle.lane_ops.proofs.words.word_sx.Goals as goal
 
 pub overflow_sub-result : goal.overflow_sub-result
@@ -10,5 +10,5 @@ overflow_sub-result c =
 
 pub returns-clause-below : goal.returns-clause-below
 returns-clause-below c =
-    rw (c.mask.ensures, c.mask-2.ensures) (extended_below c.top_bit.result (2 ^ c.args.width) (2 ^ c.args.from) c.args.a
+    rw (c.mask.ensures, c.mask-2.ensures) (copies_below c.top_bit.result (2 ^ c.args.width) (2 ^ c.args.from) c.args.a
     c.top_bit.ensures.below (power_grows c.args.from c.args.width (omega arith)) c.requires.word)

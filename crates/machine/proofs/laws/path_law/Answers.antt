@@ -1,5 +1,5 @@
 use Rattle.machine.specs.Step.{allows_step, free_step}
-use Rattle.machine.proofs.Paths.{way-allowed, way-falls, way-falls_at_first}
+use Rattle.runs.proofs.Paths.{way-allowed, way-falls, way-falls_at_first}
 use Rattle.machine.proofs.laws.path_law.Goals as goal
 
 pub returns : goal.returns

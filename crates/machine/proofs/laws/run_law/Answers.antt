@@ -1,5 +1,5 @@
 use Rattle.machine.specs.Step.{step_of}
-use Rattle.machine.proofs.Runs.{run-from, stays}
+use Rattle.runs.proofs.Runs.{run-from, stays}
 use Rattle.machine.proofs.laws.run_law.Goals as goal
 
 pub returns : goal.returns

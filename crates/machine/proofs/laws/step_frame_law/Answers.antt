@@ -1,4 +1,4 @@
-use Rattle.machine.proofs.Frames.{run_frame, run_memory, step_frame, step_memory}
+use Rattle.machine.proofs.Frames.{free_frame, free_memory, free_run_frame, run_frame, run_memory, step_frame, step_memory}
 use Rattle.machine.proofs.laws.step_frame_law.Goals as goal
 
 pub returns : goal.returns
@@ -7,4 +7,7 @@ returns c = record {
   step_memory = step_memory;
   run = run_frame;
   run_memory = λ insns pool s n closed. run_memory insns pool closed s n;
+  free_step = free_frame;
+  free_step_memory = free_memory;
+  free_run = free_run_frame;
 }

@@ -1,5 +1,5 @@
 use Rattle.machine.specs.Step.{step_of}
-use Rattle.machine.proofs.Paths.{way-back, way-fell, way-stands, way-through}
+use Rattle.runs.proofs.Paths.{way-back, way-fell, way-stands, way-through}
 use Rattle.machine.proofs.laws.way_law.Goals as goal
 
 pub returns : goal.returns

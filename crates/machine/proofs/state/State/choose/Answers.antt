@@ -1,5 +1,5 @@
 use Rattle.std.proofs.Common.{◌≡◌, ◌∙◌, Bool, ap, sym, subst, if◌then◌else◌}
-use Rattle.machine.specs.Ready.{completed}
+use Rattle.machine.specs.Ready.{finished_row}
 use Rattle.machine.specs.Kept.{IsKept, Kept, pure_of}
 use Rattle.machine.proofs.Allowed.{target_spanned}
 use Rattle.machine.proofs.RowValues.{choice_after}
@@ -19,6 +19,6 @@ returns c =
       | else-holds w ↦ w.word-is ∙ ap (λ (h : Bool). if h then b else a) (sym w.if-holds.false)
     ] in
     c.complete.ensures
-    ∙ ap (λ (k : Kept). completed c.args.insn.now (pure_of c.args.self.now) c.if-holds.word k.flags) c.self.view_is
+    ∙ ap (λ (k : Kept). finished_row c.args.insn.now (pure_of c.args.self.now) c.if-holds.word k.flags) c.self.view_is
     ∙ choice_after c.args.pool.now c.args.insn.now (pure_of c.args.self.now) a b c.if-holds.word c.args.holds c.requires.family
     c.destination_value-a.ensures.value c.source_value-b.ensures.value word

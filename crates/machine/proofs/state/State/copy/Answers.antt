@@ -9,15 +9,15 @@ use Rattle.machine.proofs.state.State.copy.Goals as goal
 pub invariant_of-result : goal.invariant_of-result
 invariant_of-result c =
     let old : Kept = kept_of c.self.inside in
-    let new : Kept = record old { spans = c.in_ok-spans.spans.items; regions = c.in-Ok.regions.items } in
+    let new : Kept = record old { spans = c.in_ok-spans.spans.items; regions = c.in_ok-regions.regions.items } in
     let same = c.in_ok-spans.ensures ∙ ap (λ (spans : List Span). contents spans) c.deref.ensures.value in
-    held_by_places old new c.self.invariant.regs refl refl refl (c.in-Ok.ensures.items ∙ c.deref-2.ensures.value)
+    held_by_places old new c.self.invariant.regs refl refl refl (c.in_ok-regions.ensures.items ∙ c.deref-2.ensures.value)
     (places_by_contents old.spans new.spans same) c.self.invariant
 
 pub returns : goal.returns
 returns c =
     let old : Kept = kept_of c.self.inside in
-    let new : Kept = record old { spans = c.in_ok-spans.spans.items; regions = c.in-Ok.regions.items } in
+    let new : Kept = record old { spans = c.in_ok-spans.spans.items; regions = c.in_ok-regions.regions.items } in
     let same = c.in_ok-spans.ensures ∙ ap (λ (spans : List Span). contents spans) c.deref.ensures.value in
     subst (λ (k : Kept). IsCopy k new) c.self.view_is
-    (copy_of old new.spans new.regions same (c.in-Ok.ensures.items ∙ c.deref-2.ensures.value))
+    (copy_of old new.spans new.regions same (c.in_ok-regions.ensures.items ∙ c.deref-2.ensures.value))

@@ -1,8 +1,8 @@
 use Rattle.std.proofs.Common.{◌≡◌, ◌<◌, length}
 use Rattle.machine.specs.Kept.{pure_of}
-use Rattle.machine.specs.Run.{run_of}
+use Rattle.runs.specs.Run.{run_of}
 use Rattle.machine.specs.Step.{step_of}
-use Rattle.machine.specs.declared.state.RunEnd.TheVariants.{Running}
+use Rattle.runs.specs.declared.ends.RunEnd.TheVariants.{Running}
 use Rattle.machine.proofs.state.State.run.Given as goal
 
 -- the run has come this far, and stands at a place of the function

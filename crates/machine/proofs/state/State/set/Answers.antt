@@ -1,6 +1,6 @@
 use Rattle.std.proofs.Common.{◌≡◌, ◌∙◌, ap, sym, subst}
 use Rattle.instruction_semantics.specs.Words.{bit}
-use Rattle.machine.specs.Ready.{completed}
+use Rattle.machine.specs.Ready.{finished_row}
 use Rattle.machine.specs.Kept.{IsKept, Kept, pure_of}
 use Rattle.machine.proofs.Allowed.{target_spanned}
 use Rattle.machine.proofs.RowValues.{setting_after}
@@ -18,5 +18,5 @@ returns c =
       | else-holds w ↦ w.word-is ∙ ap bit (sym w.if-holds.false)
     ] in
     c.complete.ensures
-    ∙ ap (λ (k : Kept). completed c.args.insn.now (pure_of c.args.self.now) c.if-holds.word k.flags) c.self.view_is
+    ∙ ap (λ (k : Kept). finished_row c.args.insn.now (pure_of c.args.self.now) c.if-holds.word k.flags) c.self.view_is
     ∙ setting_after c.args.pool.now c.args.insn.now (pure_of c.args.self.now) c.if-holds.word c.args.holds c.requires.family word

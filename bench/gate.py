@@ -1,0 +1,89 @@
+#!/usr/bin/env python3
+"""The processor time of the whole gate from nothing, by crate and by kind: proofs, tests (each proved, too), wrong edits.
+
+Runs `rt ci --anew` in this checkout and looks, ten times a second, at the processes of the prover that it starts: a
+check in a folder of an edit is an edit's, one of a crate's tests is a test's, each other one is a proof's. What is left
+of the whole (compilers, programs, tests that run, processes too short to be seen) is printed as the rest. Run it with no
+other work on the machine.
+
+usage: python3 bench/gate.py
+"""
+import os
+import resource
+import subprocess
+import sys
+import time
+from collections import defaultdict
+from pathlib import Path
+
+TICK = os.sysconf("SC_CLK_TCK")
+
+
+def children(pids):
+    """The processes of the table that are among these or below them."""
+    parents = {}
+    for entry in Path("/proc").iterdir():
+        if entry.name.isdigit():
+            try:
+                fields = (entry / "stat").read_text().rsplit(")", 1)[1].split()
+            except OSError:
+                continue
+            parents[int(entry.name)] = (int(fields[1]), int(fields[11]) + int(fields[12]))
+    found = set(pids)
+    grown = True
+    while grown:
+        grown = False
+        for pid, (parent, _) in parents.items():
+            if parent in found and pid not in found:
+                found.add(pid)
+                grown = True
+    return {pid: parents[pid][1] for pid in found if pid in parents}
+
+
+def kind_of(pid):
+    """Crate and kind of a check, or None where the process is no check."""
+    try:
+        words = (Path("/proc") / str(pid) / "cmdline").read_text().split("\0")
+        folder = os.readlink(f"/proc/{pid}/cwd")
+    except OSError:
+        return None
+    if len(words) < 4 or not words[0].endswith("rattle") or words[1] != "check" or "--crate-name" not in words:
+        return None
+    crate = words[words.index("--crate-name") + 1]
+    if "rt-edit" in folder:
+        return crate, "edits"
+    return crate, "tests" if "--test" in words else "proofs"
+
+
+def main():
+    run = subprocess.Popen(["rt", "ci", "--anew"], stdout=subprocess.PIPE, stderr=subprocess.STDOUT, text=True)
+    spent, kinds = {}, {}
+    os.set_blocking(run.stdout.fileno(), False)
+    text, start = "", time.monotonic()
+    while run.poll() is None:
+        for pid, ticks in children([run.pid]).items():
+            kinds[pid] = kinds.get(pid) or kind_of(pid)
+            spent[pid] = ticks
+        text += run.stdout.read() or ""
+        time.sleep(0.1)
+    text += run.stdout.read() or ""
+    table = defaultdict(float)
+    for pid, ticks in spent.items():
+        if kinds.get(pid):
+            table[kinds[pid]] += ticks / TICK
+    used = resource.getrusage(resource.RUSAGE_CHILDREN)
+    whole = used.ru_utime + used.ru_stime
+    print("| Crate | Proofs | Tests | Wrong edits |\n|---|---|---|---|")
+    for crate in sorted({crate for crate, _ in table}):
+        row = [f"{table[(crate, kind)]:.0f} s" if (crate, kind) in table else "" for kind in ("proofs", "tests", "edits")]
+        print(f"| `{crate}` | " + " | ".join(row) + " |")
+    sums = [sum(value for (_, k), value in table.items() if k == kind) / 60 for kind in ("proofs", "tests", "edits")]
+    print("| all | " + " | ".join(f"{value:.1f} min" for value in sums) + " |")
+    print(f"\nwhole {whole / 60:.1f} min of processor time, rest {whole / 60 - sum(sums):.1f} min, "
+          f"{(time.monotonic() - start) / 60:.1f} min of clock, {used.ru_maxrss // 1024} MiB at most in one process")
+    print(text.strip().splitlines()[-1] if text.strip() else "no output")
+    return run.returncode
+
+
+if __name__ == "__main__":
+    sys.exit(main())

@@ -1,0 +1,33 @@
+//! What a command answers before anything is given, and what keeps it from an answer.
+ghost use Rattle.std.specs.Prelude.{◌≡◌};
+ghost use Rattle.align_cli.specs.declared.answer.Interruption.TheVariants as interruption;
+
+use align_base::Status;
+use std::alloc::AllocError;
+use thiserror::Error;
+
+/// The report and the status that it is given with.
+#[derive(Drop)]
+pub struct Answer {
+    pub status: Status,
+    pub text: String,
+}
+
+/// What keeps a command from an answer.
+#[derive(Clone, Copy, Debug, PartialEq, Eq, Error)]
+pub enum Interruption {
+    /// The shelf failed.
+    #[error("a file could not be taken")]
+    Shelf,
+    /// Out of memory.
+    #[error("out of memory")]
+    Memory,
+}
+
+impl From<AllocError> for Interruption {
+    ghost from_gives = { λ _ e. e ≡ interruption.Memory };
+
+    fn from(_error: AllocError) -> Interruption {
+        Interruption::Memory
+    }
+}

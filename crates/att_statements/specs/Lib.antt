@@ -1,0 +1,4 @@
+pub mod Operands
+pub mod Statements
+pub mod ReadingOperands
+pub mod ReadingStatements

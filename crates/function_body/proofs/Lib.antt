@@ -1,0 +1,5 @@
+pub mod Counts
+pub mod Extents
+pub mod Targets
+pub mod Outcomes
+pub mod BodyLaws

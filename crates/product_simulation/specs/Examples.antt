@@ -1,0 +1,69 @@
+-- Two small products, which show what the premises of the law are for. A state is the place where it stands.
+use Rattle.std.specs.Prelude.{◌≡◌, ℕ, zero, suc, List, [], ◌∷◌}
+use Rattle.runs.specs.Run.{Step, Goes, Returns}
+use Rattle.products.specs.declared.product.PEdge.{PEdge}
+use Rattle.products.specs.declared.product.PNode.{PNode}
+use Rattle.products.specs.declared.product.Product.{Product}
+
+-- returns by its first step
+abbrev pub quick_step : ℕ → Step ℕ
+quick_step s = Returns
+
+-- goes from place 0 to place 2, and returns there by its third step
+abbrev pub slow_step : ℕ → Step ℕ
+slow_step zero = Goes 1
+slow_step (suc zero) = Goes 2
+slow_step (suc (suc s)) = Returns
+
+-- stays where it stands, and never ends
+abbrev pub endless_step : ℕ → Step ℕ
+endless_step s = Goes s
+
+-- a node with these places and this left rank
+abbrev pub node_at : (left right rank : ℕ) → PNode
+node_at left right rank = record { left = left; right = right; invs = []; rank_left = rank; rank_right = 0 }
+
+abbrev pub edge_of : (from to : ℕ) → (left right : List ℕ) → PEdge
+edge_of from to left right = record { from = from; to = to; left = left; right = right }
+
+-- The right function goes on along three edges, the left one along the last alone.
+abbrev pub waiting_product : Product
+waiting_product = record {
+  nodes = node_at 0 0 2 ∷ node_at 0 0 0 ∷ node_at 0 1 1 ∷ node_at 0 2 0 ∷ [];
+  edges = edge_of 0 2 [] (0 ∷ []) ∷ edge_of 2 3 [] (1 ∷ []) ∷ edge_of 3 1 (0 ∷ []) (2 ∷ []) ∷ [];
+}
+
+-- two states stand at these places
+pub record AtPlaces (left right a b : ℕ) : Type 0 where
+  pub left_place : a ≡ left
+  pub right_place : b ≡ right
+
+-- any two states that have returned have the same end here
+abbrev pub AnyEnd : ℕ → ℕ → Type 0
+AnyEnd a b = Unit {0}
+
+abbrev pub IsAtEntry : ℕ → Type 0
+IsAtEntry s = s ≡ 0
+
+abbrev pub WaitingRelated : ℕ → ℕ → ℕ → Type 0
+WaitingRelated zero a b = AtPlaces 0 0 a b
+WaitingRelated (suc zero) a b = AnyEnd a b
+WaitingRelated (suc (suc zero)) a b = AtPlaces 0 1 a b
+WaitingRelated (suc (suc (suc zero))) a b = AtPlaces 0 2 a b
+WaitingRelated (suc (suc (suc (suc k)))) a b = ⊥
+
+-- Along its last edge, whose rank does not fall, the right function goes on for ever and the left one does not.
+abbrev pub standing_product : List PEdge → Product
+standing_product edges = record { nodes = node_at 0 0 1 ∷ node_at 0 0 0 ∷ node_at 0 0 0 ∷ []; edges = edges }
+
+abbrev pub entry_edge : PEdge
+entry_edge = edge_of 0 2 [] (0 ∷ [])
+
+abbrev pub circle_edge : PEdge
+circle_edge = edge_of 2 2 [] (0 ∷ [])
+
+abbrev pub StandingRelated : ℕ → ℕ → ℕ → Type 0
+StandingRelated zero a b = AtPlaces 0 0 a b
+StandingRelated (suc zero) a b = AnyEnd a b
+StandingRelated (suc (suc zero)) a b = AtPlaces 0 0 a b
+StandingRelated (suc (suc (suc k))) a b = ⊥

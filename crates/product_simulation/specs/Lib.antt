@@ -1,0 +1,6 @@
+pub mod Chains
+pub mod Examples
+pub mod Functions
+pub mod Leads
+pub mod Pace
+pub mod Related

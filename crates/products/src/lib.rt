@@ -1,0 +1,19 @@
+//! Products of two functions: pairs of places where both runs may stand, and edges along which both
+//! go on. What they are, how long their paths are, and when no cycle stands still on a side.
+//!
+//! ```text
+//! if product.ranks_fall() {
+//!     let steps = product.bound();    // the number of nodes times the longest path
+//! }
+//! ```
+//!
+//! `ranks_fall` answers true exactly where ranks fall along every edge with an empty path on that
+//! side; `bound` and `compose` give exactly the numbers that their definitions in specs/ say.
+#![tactic(auto)]
+
+mod chains;
+mod product;
+mod ranks;
+
+pub use chains::compose;
+pub use product::{Atom, Bound1, Invariant, PEdge, PNode, Product};

@@ -1,0 +1,83 @@
+-- The case that a line of the table spells. A flag is written 0 or 1, and 2 where it is unset, in the order carry,
+-- parity, zero, sign, overflow. A line is one of
+--   0 OPERATION WIDTH DESTINATION SOURCE BEFORE.. VALUE AFTER..   a general operation, by its number
+--   2 CONDITION WIDTH DESTINATION SOURCE BEFORE.. VALUE AFTER..   the `cmovCC` of a condition, by its number
+--   3 CONDITION WIDTH DESTINATION SOURCE BEFORE.. VALUE AFTER..   the `setCC` of a condition
+--   1 CONDITION FLAGS.. HOLDS                                     whether a condition holds: 0, 1, or 2 for no answer
+use Rattle.std.specs.Prelude.{ℕ, ◌+◌, ◌==◌, Bool, List, [], ◌∷◌, Option, Some, None, ◌&&◌, length, nat_lt, slice_get, slice_index, if◌then◌else◌}
+use Rattle.std.specs.Option.{option_and_then, option_map}
+use Rattle.align_base.specs.declared.op.Cond.{Cond}
+use Rattle.align_base.specs.declared.op.Cond.TheVariants as conds
+use Rattle.align_base.specs.declared.op.Flags.{Flags}
+use Rattle.align_base.specs.declared.op.Op.{Op}
+use Rattle.align_base.specs.declared.op.Op.TheVariants as ops
+use Rattle.row_vectors.specs.Numbers.{numbers_of}
+use Rattle.row_vectors.specs.declared.case.Case.{Case}
+use Rattle.row_vectors.specs.declared.case.Case.TheVariants.{Row, Condition}
+
+-- the general operations, each at its number
+abbrev pub operations : List Op
+operations =
+    ops.Mov ∷ ops.Movabs ∷ ops.Add ∷ ops.Sub ∷ ops.Cmp ∷ ops.Test ∷ ops.And ∷ ops.Or ∷ ops.Xor ∷ ops.Inc ∷ ops.Dec ∷ ops.Neg
+    ∷ ops.Not ∷ ops.Shl ∷ ops.Shr ∷ ops.Sar ∷ ops.Imul ∷ ops.Lea ∷ ops.Movzx 8 ∷ ops.Movzx 16 ∷ ops.Movsx 8 ∷ ops.Movsx 16
+    ∷ ops.Movsx 32 ∷ ops.Cltq ∷ []
+
+-- the conditions, each at its number
+abbrev pub conditions : List Cond
+conditions =
+    conds.E ∷ conds.Ne ∷ conds.B ∷ conds.Ae ∷ conds.Be ∷ conds.A ∷ conds.L ∷ conds.Ge ∷ conds.Le ∷ conds.G ∷ conds.S ∷ conds.Ns
+    ∷ conds.O ∷ conds.No ∷ conds.P ∷ conds.Np ∷ []
+
+-- the operation of a row: its kind and its number
+abbrev pub operation_of : ℕ → ℕ → Option Op
+operation_of kind number =
+    if kind == 0 then slice_get operations number
+    else (if kind == 2 then option_map (λ c. ops.Cmov c) (slice_get conditions number)
+    else (if kind == 3 then option_map (λ c. ops.Set c) (slice_get conditions number)
+    else None))
+
+-- a flag as it is written
+abbrev pub flag_of : ℕ → Option Bool
+flag_of n = if n == 2 then None else Some (n == 1)
+
+-- five flags are written from place i on, and which they are
+abbrev pub has_flags : List ℕ → ℕ → Bool
+has_flags ns i =
+    nat_lt (slice_index ns i) 3
+    && (nat_lt (slice_index ns (i + 1)) 3
+    && (nat_lt (slice_index ns (i + 2)) 3
+    && (nat_lt (slice_index ns (i + 3)) 3 && nat_lt (slice_index ns (i + 4)) 3)))
+
+abbrev pub flags_from : List ℕ → ℕ → Flags
+flags_from ns i = record {
+  cf = flag_of (slice_index ns i);
+  pf = flag_of (slice_index ns (i + 1));
+  zf = flag_of (slice_index ns (i + 2));
+  sf = flag_of (slice_index ns (i + 3));
+  of = flag_of (slice_index ns (i + 4));
+}
+
+abbrev pub row_of : List ℕ → Op → Case
+row_of ns op =
+    Row (slice_index ns 1) op (slice_index ns 2) (slice_index ns 3) (slice_index ns 4) (flags_from ns 5) (slice_index ns 10)
+    (slice_index ns 11 ∷ slice_index ns 12 ∷ slice_index ns 13 ∷ slice_index ns 14 ∷ slice_index ns 15 ∷ [])
+
+-- the case of 16 numbers, and of 8
+abbrev pub row_case : List ℕ → Option Case
+row_case ns =
+    if nat_lt (slice_index ns 2) 65 && has_flags ns 5
+    then option_map (row_of ns) (operation_of (slice_index ns 0) (slice_index ns 1))
+    else None
+
+abbrev pub condition_case : List ℕ → Option Case
+condition_case ns =
+    if (slice_index ns 0 == 1) && has_flags ns 2
+    then option_map (λ cond. Condition cond (flags_from ns 2) (slice_index ns 7)) (slice_get conditions (slice_index ns 1))
+    else None
+
+abbrev pub case_of_numbers : List ℕ → Option Case
+case_of_numbers ns = if length ns == 16 then row_case ns else (if length ns == 8 then condition_case ns else None)
+
+-- the case of a line
+abbrev pub case_of : List ℕ → Option Case
+case_of line = option_and_then case_of_numbers (numbers_of line)

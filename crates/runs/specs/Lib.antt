@@ -1,0 +1,4 @@
+pub mod Equivalent
+pub mod Path
+pub mod Run
+pub mod Stepping

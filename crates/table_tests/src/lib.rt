@@ -1,0 +1,5 @@
+//! Tests of `insn_table`, which stand here so that the crate is proved once.
+#![tactic(auto)]
+
+#[cfg(test)]
+mod tests;
