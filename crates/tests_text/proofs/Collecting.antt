@@ -2,6 +2,7 @@
 use Rattle.std.proofs.Common.{◌≡◌, ℕ, zero, suc, ◌+◌, ◌-◌, ◌<◌, ◌≤◌, List, [], ◌∷◌, ◌++◌, length, get_or, set, slice_get, take, Option, Some, None, refl, sym, ap, ◌∙◌, subst, append_assoc, append-nil, arith}
 use Rattle.std.proofs.lemmas.Option.{same_Some}
 use Rattle.std.proofs.Math.Seq.{take-suc-set}
+use Rattle.std.proofs.lemmas.List.{take_all}
 use Rattle.tests_text.specs.Reading.{◌>>=◌, collected, values}
 
 pub bind-some : {A B : Type 0} (o : Option A) (f : A → Option B) (y : B) → (o >>= f) ≡ Some y → (x : A) × (o ≡ Some x) × (f x ≡ Some y)
@@ -73,3 +74,38 @@ values-only f (x ∷ xs) (suc count) n long each =
     let here : x ≡ f n = each 0 (omega arith) ∙ ap f (omega arith) in
     let rest : xs ≡ values f (n + 1) count = values-only f xs count (n + 1) (omega arith) (λ k below. each (suc k) (omega arith) ∙ ap f (omega arith)) in
     ap (λ (y : ℕ). y ∷ xs) here ∙ ap (λ (ys : List ℕ). f n ∷ ys) rest
+
+next-by : {A : Type 0} (f : ℕ → Option A) (i n : ℕ) (ys : List A) (v : A) → f i ≡ Some v
+    → before_those ys (collected f i (suc n)) ≡ before_those (ys ++ v ∷ []) (collected f (i + 1) n)
+unfolding collected
+next-by {A = A} f i n ys v read =
+    ap (λ (o : Option A). before_those ys (o >>= λ x. (collected f (i + 1) n >>= λ more. Some (x ∷ more)))) read ∙ before_those-cons ys v (collected f (i + 1) n)
+
+stop-by : {A : Type 0} (f : ℕ → Option A) (i n : ℕ) (ys : List A) → f i ≡ None → before_those ys (collected f i (suc n)) ≡ None
+unfolding collected
+stop-by {A = A} f i n ys read = ap (λ (o : Option A). before_those ys (o >>= λ x. (collected f (i + 1) n >>= λ more. Some (x ∷ more)))) read
+
+end-by : {A : Type 0} (f : ℕ → Option A) (i : ℕ) (ys : List A) → before_those ys (collected f i 0) ≡ Some ys
+unfolding collected
+end-by {A = A} f i ys = ap (λ (zs : List A). Some zs) (append-nil ys)
+
+-- one turn of a loop that fills an array
+pub collected-more : {A : Type 0} (f : ℕ → Option A) (xs kept : List A) (i : ℕ) (v : A) → collected f 0 16 ≡ before_those (take i xs) (collected f i (16 - i)) → length xs ≡ 16 → i < 16
+    → f i ≡ Some v → kept ≡ set xs i v → collected f 0 16 ≡ before_those (take (i + 1) kept) (collected f (i + 1) (16 - (i + 1)))
+collected-more {A = A} f xs kept i v so_far long below read grown =
+    let one : 16 - i ≡ suc (16 - (i + 1)) = omega arith in
+    let more : take (i + 1) kept ≡ take i xs ++ v ∷ [] = ap (λ (ys : List A). take (i + 1) ys) grown ∙ ap (λ (n : ℕ). take n (set xs i v)) (suc-is i) ∙ take-suc-set xs i v (omega arith) in
+    so_far ∙ ap (λ (n : ℕ). before_those (take i xs) (collected f i n)) one ∙ next-by f i (16 - (i + 1)) (take i xs) v read ∙ ap (λ (ys : List A). before_those ys (collected f (i + 1) (16 - (i + 1)))) (sym more)
+  where
+    suc-is : (n : ℕ) → n + 1 ≡ suc n
+    suc-is n = omega arith
+
+pub collected-stop : {A : Type 0} (f : ℕ → Option A) (xs : List A) (i : ℕ) → collected f 0 16 ≡ before_those (take i xs) (collected f i (16 - i)) → i < 16 → f i ≡ None → collected f 0 16 ≡ None
+collected-stop f xs i so_far below read =
+    let one : 16 - i ≡ suc (16 - (i + 1)) = omega arith in
+    so_far ∙ ap (λ (n : ℕ). before_those (take i xs) (collected f i n)) one ∙ stop-by f i (16 - (i + 1)) (take i xs) read
+
+pub collected-end : {A : Type 0} (f : ℕ → Option A) (xs : List A) (i : ℕ) → collected f 0 16 ≡ before_those (take i xs) (collected f i (16 - i)) → length xs ≡ 16 → 16 ≤ i → collected f 0 16 ≡ Some xs
+collected-end {A = A} f xs i so_far long over =
+    let none : 16 - i ≡ 0 = omega arith in
+    so_far ∙ ap (λ (n : ℕ). before_those (take i xs) (collected f i n)) none ∙ end-by f i (take i xs) ∙ ap (λ (ys : List A). Some ys) (take_all i xs (omega arith))

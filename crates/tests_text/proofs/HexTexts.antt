@@ -55,9 +55,14 @@ decoded-at (x ∷ []) i h inside = absurd (omega arith)
 decoded-at (x ∷ y ∷ rest) zero h inside = refl
 decoded-at (x ∷ y ∷ rest) (suc i) h inside =
     let more : i < length rest / 2 = omega arith in
+    let all : List ℕ = x ∷ y ∷ rest in
     let first : 2 * suc i ≡ suc (suc (2 * i)) = omega arith in
     let second : 2 * suc i + 1 ≡ suc (suc (2 * i + 1)) = omega arith in
-    rw (first, second) (decoded-at rest i (splits x y rest h).more more)
+    let high : get_or all (2 * suc i) 0 ≡ get_or rest (2 * i) 0 = ap (λ (k : ℕ). get_or all k 0) first in
+    let low : get_or all (2 * suc i + 1) 0 ≡ get_or rest (2 * i + 1) 0 = ap (λ (k : ℕ). get_or all k 0) second in
+    decoded-at rest i (splits x y rest h).more more
+    ∙ ap (λ (v : ℕ). 16 * hex_digit_value v + hex_digit_value (get_or rest (2 * i + 1) 0)) (sym high)
+    ∙ ap (λ (v : ℕ). 16 * hex_digit_value (get_or all (2 * suc i) 0) + hex_digit_value v) (sym low)
 
 -- each digit is one
 pub hex-at : (text : List ℕ) (k : ℕ) → list_all is_hex_digit text ≡ true → k < length text → is_hex_digit (get_or text k 0) ≡ true

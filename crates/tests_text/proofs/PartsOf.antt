@@ -8,7 +8,7 @@ use Rattle.tests_text.specs.declared.shape.Kind.TheVariants as kinds
 use Rattle.tests_text.specs.declared.test.Test.{Test}
 use Rattle.tests_text.specs.Shapes.{AreRegisters, AreVectors, IsTest, is_object}
 use Rattle.tests_text.specs.TestFiles.{HasTests}
-use Rattle.tests_text.specs.Reading.{◌>>=◌, outer_of, parts_of, pieces_of, registers_of, size_of, vectors_of}
+use Rattle.tests_text.specs.Reading.{◌>>=◌, outer_of, parts_of, pieces_of, registers_of, size_of, sized_pieces, vectors_of}
 use Rattle.tests_text.proofs.Collecting.{bind-some}
 use Rattle.tests_text.proofs.TestParts.{registers-known, registers-only, vectors-known, vectors-only}
 use Rattle.tests_text.proofs.Values.{array-known}
@@ -31,11 +31,14 @@ pub parts-known : (k : ℕ) (d : Data) (p : Parts) → parts_of k d ≡ Some p �
 unfolding parts_of
 parts-known k d p h =
     let regs = bind-some (cond (is_object kinds.Test d) (registers_of k (get (codes "regs") d)) None)
-      (λ regs. vectors_of k (get (codes "ymm") d) >>= λ vecs. (pieces_of (get (codes "mem") d) >>= λ pieces. (size_of 0 pieces >>= λ size. Some (regs, vecs, pieces, size)))) p h in
-    let vecs = bind-some (vectors_of k (get (codes "ymm") d)) (λ vecs. pieces_of (get (codes "mem") d) >>= λ pieces. (size_of 0 pieces >>= λ size. Some (regs.0, vecs, pieces, size))) p regs.2 in
-    let pieces = bind-some (pieces_of (get (codes "mem") d)) (λ pieces. size_of 0 pieces >>= λ size. Some (regs.0, vecs.0, pieces, size)) p vecs.2 in
-    let size = bind-some (size_of 0 pieces.0) (λ size. Some (regs.0, vecs.0, pieces.0, size)) p pieces.2 in
-    let same : ◌≡◌ {A = Parts} (regs.0, vecs.0, pieces.0, size.0) p = same_Some (regs.0, vecs.0, pieces.0, size.0) p size.2 in
+      (λ regs. vectors_of k (get (codes "ymm") d) >>= λ vecs. (sized_pieces d >>= λ sized. Some (regs, vecs, sized.0, sized.1))) p h in
+    let vecs = bind-some (vectors_of k (get (codes "ymm") d)) (λ vecs. sized_pieces d >>= λ sized. Some (regs.0, vecs, sized.0, sized.1)) p regs.2 in
+    let sized = bind-some (sized_pieces d) (λ sized. Some (regs.0, vecs.0, sized.0, sized.1)) p vecs.2 in
+    let pieces = bind-some (pieces_of (get (codes "mem") d)) (λ pieces. size_of 0 pieces >>= λ size. Some (pieces, size)) sized.0 sized.1 in
+    let size = bind-some (size_of 0 pieces.0) (λ size. Some (pieces.0, size)) sized.0 pieces.2 in
+    let both : ◌≡◌ {A = Items × ℕ} (pieces.0, size.0) sized.0 = same_Some (pieces.0, size.0) sized.0 size.2 in
+    let same : ◌≡◌ {A = Parts} (regs.0, vecs.0, pieces.0, size.0) p =
+    ap (λ (x : Items × ℕ). (regs.0, vecs.0, x.0, x.1)) both ∙ same_Some (regs.0, vecs.0, sized.0.0, sized.0.1) p sized.2 in
     let object = chosen_then (is_object kinds.Test d) (registers_of k (get (codes "regs") d)) regs.0 regs.1 in
     subst (IsParts k d) same
     (record {

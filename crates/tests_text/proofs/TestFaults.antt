@@ -63,7 +63,7 @@ none-some x h = cc
 sized : (k : ℕ) (d : Data) (p : List ℕ × List Bytes32 × Items × ℕ) (bytes : List (ℕ × ℕ)) (over : Bool) → IsParts k d p → bytes_of p.2 ≡ Some bytes
     → p.3 ≡ min (0 + length bytes) (2 ^ 64 - 1) → ltb 65536 p.3 ≡ over → IsTestRight k d (cond over (Err (TooManyBytes k)) (test_with k p.0 p.1 (bytes_of p.2)))
 sized k d p bytes true is read size over =
-    inr (refl, test_with_bytes p.0 p.1 bytes, parts-test k d p bytes is read, ltb-true 65536 (length bytes) (sym (capped p.3 (length bytes) size) ∙ over))
+    inr (refl, (test_with_bytes p.0 p.1 bytes, parts-test k d p bytes is read, ltb-true 65536 (length bytes) (sym (capped p.3 (length bytes) size) ∙ over)))
 sized k d p bytes false is read size over =
     subst (λ (o : Option (List (ℕ × ℕ))). IsTestRight k d (test_with k p.0 p.1 o)) (sym read)
     (parts-test k d p bytes is read, ltb-false 65536 (length bytes) (sym (capped p.3 (length bytes) size) ∙ over))
@@ -100,11 +100,11 @@ no-fault : (before : List Numbered) (d : Numbered) (t : Test) → IsTest d.numbe
 no-fault before d t is few e (inl p) = p.1 t is
 no-fault before d t is few e (inr p) =
     let mine = test-only d.number d.value t is in
-    let other = test-only d.number d.value p.1 p.2 in
+    let other = test-only d.number d.value p.1.0 p.1.1 in
     let low : ltb 65536 (length t.bytes) ≡ false = le-ltb 65536 (length t.bytes) few in
-    let high : ltb 65536 (length p.1.bytes) ≡ true = lt-ltb 65536 (length p.1.bytes) p.3 in
+    let high : ltb 65536 (length p.1.0.bytes) ≡ true = lt-ltb 65536 (length p.1.0.bytes) p.1.2 in
     let a : test_of d.number d.value ≡ Ok t = mine ∙ ap (λ (b : Bool). cond b (Err (TooManyBytes d.number)) (Ok t)) low in
-    let b : test_of d.number d.value ≡ Err (TooManyBytes d.number) = other ∙ ap (λ (c : Bool). cond c (Err (TooManyBytes d.number)) (Ok p.1)) high in
+    let b : test_of d.number d.value ≡ Err (TooManyBytes d.number) = other ∙ ap (λ (c : Bool). cond c (Err (TooManyBytes d.number)) (Ok p.1.0)) high in
     ok-err t (TooManyBytes d.number) (sym a ∙ b)
   where
     ok-err : (x : Test) (y : TestRefusal) → ◌≡◌ {A = Result Test TestRefusal} (Ok x) (Err y) → ⊥
@@ -114,7 +114,7 @@ same-test : (before : List Numbered) (d : Numbered) (e other : TestRefusal) → 
 same-test before d e other (inl p) h =
     let low : rank e ≡ 0 = ap rank p.0 in
     inr (ap fault_number p.0 ∙ sym (fault-at before d other h), omega arith)
-same-test before d e other (inr p) (inl q) = absurd (q.1 p.1 p.2)
+same-test before d e other (inr p) (inl q) = absurd (q.1 p.1.0 p.1.1)
 same-test before d e other (inr p) (inr q) =
     let mine : rank e ≡ 1 = ap rank p.0 in
     let its : rank other ≡ 1 = ap rank q.0 in
@@ -336,7 +336,7 @@ pub unread-gives : (text : List ℕ) → ((d : Data) → IsJson text d → ⊥) 
 unread-gives text none tests is = absurd (none is.value is.json)
 
 pub unread-refused : (text : List ℕ) → ((d : Data) → IsJson text d → ⊥) → (e : TestRefusal) → IsRefused text e → Gives {A = Tests} (Err NotJson) (Err e)
-unread-refused text none e (Unread no is) = ap (λ (x : TestRefusal). Err x) is
-unread-refused text none e (Outer c known no is) = absurd (none c known)
+unread-refused text none e (Unread alike is) = ap (λ (x : TestRefusal). Err x) is
+unread-refused text none e (Outer c known without is) = absurd (none c known)
 unread-refused text none e (Many c known ds has many is) = absurd (none c known)
 unread-refused text none e (Faulty c known ds has few first) = absurd (none c known)

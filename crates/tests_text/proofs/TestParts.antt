@@ -28,6 +28,9 @@ object-only : (kind : Kind) (found : Option Data) → IfSome found (λ d. is_obj
 object-only kind None h = refl
 object-only kind (Some d) h = h
 
+zero-first : (n : ℕ) → 0 + n ≡ n
+zero-first n = omega arith
+
 -- registers
 
 register-known : (k n : ℕ) (found : Option Data) (v : ℕ) → register_of k n found ≡ Some v → IsRegister k n found v
@@ -52,7 +55,7 @@ registers-known k found regs h =
       sixteen = all.0;
       each = λ n name there.
         let below : n < 16 = slice_get_within names_64 n name there in
-        let at : register_of k n (member_of found (name_at names_64 n)) ≡ Some (get_or regs n 0) = all.1 n 0 below in
+        let at : register_of k n (member_of found (name_at names_64 n)) ≡ Some (get_or regs n 0) = ap value (sym (zero-first n)) ∙ all.1 n 0 below in
         register-known k n (member_of found name) (get_or regs n 0) (ap (λ (x : List ℕ). register_of k n (member_of found x)) (sym (name-is names_64 n name there)) ∙ at);
     }
 
@@ -64,7 +67,7 @@ registers-only k found regs are =
       let below : n < length regs = slice_get_within regs n v there in
       let named : slice_get names_64 n ≡ Some (name_at names_64 n) = slice_get-get_or names_64 n [] (omega (arith, are.sixteen)) in
       let read : get_or regs n 0 ≡ v = get_or_from_slice_get regs n v 0 there in
-      register-only k n (member_of found (name_at names_64 n)) (get_or regs n 0) (are.each n (name_at names_64 n) named) ∙ ap (λ (x : ℕ). Some x) read) in
+      ap value (zero-first n) ∙ register-only k n (member_of found (name_at names_64 n)) (get_or regs n 0) (are.each n (name_at names_64 n) named) ∙ ap (λ (x : ℕ). Some x) read) in
     let object = object-only kinds.Registers found are.named in
     rw object all
 
@@ -92,14 +95,14 @@ vector-known : (k n : ℕ) (found : Option Data) (v : Bytes32) → vector_of k n
 vector-known k n None v h =
     let is : values (default_byte k n) 0 32 ≡ v.bytes = ap (λ (x : Bytes32). x.bytes) (same_Some (default_vector k n) v h) in
     subst (λ (bs : List ℕ). (length bs ≡ 32) × ((i : ℕ) → i < 32 → get_or bs i 0 ≡ default_byte k n i)) is
-    (length-values (default_byte k n) 32 0, λ i below. values-at (default_byte k n) 32 0 i below)
+    (length-values (default_byte k n) 32 0, λ i below. values-at (default_byte k n) 32 0 i below ∙ ap (default_byte k n) (zero-first i))
 vector-known k n (Some d) v h =
     let text = bind-some (as_str d) vector_in v h in
     let p = vector_in-known text.0 v text.2 in
     (p.0, (text.0, str-known d text.0 text.1, p.1))
 
 vector-only : (k n : ℕ) (found : Option Data) (v : Bytes32) → IsVector k n found v.bytes → vector_of k n found ≡ Some v
-vector-only k n None v is = ap (λ (bs : List ℕ). Some (vector bs)) (sym (values-only (default_byte k n) v.bytes 32 0 is.0 is.1))
+vector-only k n None v is = ap (λ (bs : List ℕ). Some (vector bs)) (sym (values-only (default_byte k n) v.bytes 32 0 is.0 (λ i below. is.1 i below ∙ ap (default_byte k n) (sym (zero-first i)))))
 vector-only k n (Some d) v is = ap (λ (x : Data). as_str x >>= vector_in) is.1.1 ∙ vector_in-only is.1.0 v is.0 is.1.2
 
 pub vectors-known : (k : ℕ) (found : Option Data) (vecs : List Bytes32) → vectors_of k found ≡ Some vecs → AreVectors k found vecs
@@ -113,7 +116,7 @@ vectors-known k found vecs h =
       sixteen = all.0;
       each = λ n name v there is.
         let below : n < 16 = slice_get_within numerals n name there in
-        let at : vector_of k n (member_of found (name_at numerals n)) ≡ Some (get_or vecs n v) = all.1 n v below in
+        let at : vector_of k n (member_of found (name_at numerals n)) ≡ Some (get_or vecs n v) = ap value (sym (zero-first n)) ∙ all.1 n v below in
         let same : get_or vecs n v ≡ v = get_or_from_slice_get vecs n v v is in
         vector-known k n (member_of found name) v
         (ap (λ (x : List ℕ). vector_of k n (member_of found x)) (sym (name-is numerals n name there)) ∙ at ∙ ap (λ (x : Bytes32). Some x) same);
@@ -126,7 +129,7 @@ vectors-only k found vecs are =
     let all : collected value 0 16 ≡ Some vecs = collected-only value vecs 16 0 are.sixteen (λ n v there.
       let below : n < length vecs = slice_get_within vecs n v there in
       let named : slice_get numerals n ≡ Some (name_at numerals n) = slice_get-get_or numerals n [] (omega (arith, are.sixteen)) in
-      vector-only k n (member_of found (name_at numerals n)) v (are.each n (name_at numerals n) v named there)) in
+      ap value (zero-first n) ∙ vector-only k n (member_of found (name_at numerals n)) v (are.each n (name_at numerals n) v named there)) in
     let object = object-only kinds.Vectors found are.named in
     rw object all
 
@@ -165,6 +168,9 @@ piece-known d at text h =
       };
     })
 
+pub piece-sound : (d : Data) (at : ℕ) (text : List ℕ) → piece_of d ≡ Some (at, text) → (is_hex_text text ≡ true) × (at + length text / 2 ≤ 2 ^ 64)
+piece-sound d at text h = let is = piece-known d at text h in (is.hex, omega (arith, is.piece.ends, length-decoded text is.hex))
+
 piece-only : (d : Data) (at : ℕ) (bytes : List ℕ) (p : IsPiece d at bytes) → piece_of d ≡ Some (at, p.text)
 unfolding piece_of
 piece-only d at bytes p =
@@ -192,7 +198,7 @@ bytes-only (item d ds) bytes are =
     let more = bytes-only ds are.2 are.4 in
     rw (piece, more) (ap (λ (bs : List ℕ). Some (addressed are.0 bs ++ are.2)) hex.1 ∙ ap (λ (bs : List (ℕ × ℕ)). Some bs) (sym are.5))
 
-length-addressed : (bytes : List ℕ) (at : ℕ) → length (addressed at bytes) ≡ length bytes
+pub length-addressed : (bytes : List ℕ) (at : ℕ) → length (addressed at bytes) ≡ length bytes
 length-addressed [] at = refl
 length-addressed (b ∷ bs) at = let e = length-addressed bs (at + 1) in omega arith
 
@@ -207,9 +213,10 @@ size-known (item d ds) n size small h =
     let more = size-known ds (min (n + length piece.0.1 / 2) (2 ^ 64 - 1)) size (omega arith) piece.2 in
     let here : List (ℕ × ℕ) = addressed piece.0.0 (decoded piece.0.1) in
     let count : length here ≡ length piece.0.1 / 2 = length-addressed (decoded piece.0.1) piece.0.0 ∙ length-decoded piece.0.1 is.hex in
-    let found = piece.1 in
-    let rest = more.1 in
-    (here ++ more.0, rw (found, rest) refl, omega (arith, more.2, count, length-append here more.0))
+    (here ++ more.0,
+    ap (λ (o : Option (ℕ × List ℕ)). o >>= λ found. (bytes_of ds >>= λ rest. Some (addressed found.0 (decoded found.1) ++ rest))) piece.1
+    ∙ ap (λ (o : Option (List (ℕ × ℕ))). o >>= λ rest. Some (here ++ rest)) more.1,
+    omega (arith, more.2, count, length-append here more.0))
 
 pub size-only : (ds : Items) (n : ℕ) (bytes : List (ℕ × ℕ)) → bytes_of ds ≡ Some bytes → (size : ℕ) × (size_of n ds ≡ Some size)
 unfolding size_of bytes_of

@@ -98,14 +98,17 @@ abbrev pub pieces_of : Option Data → Option Items
 pieces_of None = Some no_items
 pieces_of (Some d) = as_array d
 
--- a test's registers, vectors and pieces
+-- the pieces of a test, and how many bytes they have
+abbrev pub sized_pieces : Data → Option (Items × ℕ)
+sized_pieces d = pieces_of (get (codes "mem") d) >>= λ pieces. (size_of 0 pieces >>= λ size. Some (pieces, size))
+
+-- a test's registers, vectors and pieces, and how many bytes the pieces have
 unfoldable pub parts_of : ℕ → Data → Option (List ℕ × List Bytes32 × Items × ℕ)
 parts_of k d = do
   regs ← (if is_object kinds.Test d then registers_of k (get (codes "regs") d) else None)
   vecs ← vectors_of k (get (codes "ymm") d)
-  pieces ← pieces_of (get (codes "mem") d)
-  size ← size_of 0 pieces
-  Some (regs, vecs, pieces, size)
+  sized ← sized_pieces d
+  Some (regs, vecs, sized.0, sized.1)
 
 -- the list that is the member `tests` of an outer value
 unfoldable pub outer_of : Data → Option Items

@@ -41,7 +41,9 @@ pub(crate) fn size_of(pieces: &[Value]) -> Option<u64>
 {
     let mut size = 0u64;
     for piece in pieces {
-        let (_at, text) = piece_of(piece)?;
+        let Some((_at, text)) = piece_of(piece) else {
+            return None;
+        };
         size = size.saturating_add((text.len() / 2) as u64);
     }
     Some(size)

@@ -14,7 +14,6 @@ use crate::shape::{Kind, is_object};
 use crate::test::{Test, Tests};
 use crate::vector::vectors_of;
 use admission::Items;
-use lane_views::Bytes32;
 use serde_json::Value;
 use std::alloc::Global;
 
@@ -22,36 +21,39 @@ use std::alloc::Global;
 const MOST_BYTES: u64 = 65536;
 const MOST_TESTS: usize = 64;
 
-// The registers, vectors and pieces of test `k`, and how many bytes the pieces have.
-#[tactic(auto, unfolding(crate::specs::Reading::parts_of))]
-fn parts_of(k: u64, value: &Value) -> Option<([u64; 16], [Bytes32; 16], &[Value], u64)>
-    requires { k ≤ 64 }
-    ensures { option_map (λ p. (p.0, p.1, items_view p.2.now, p.3)) result ≡ reading.parts_of k (view value.now) }
+// The pieces of a test, and how many bytes they have.
+fn sized_pieces(value: &Value) -> Option<(&[Value], u64)>
+    ensures { option_map (λ p. (items_view p.0.now, p.1)) result ≡ reading.sized_pieces (view value.now) }
 {
-    if !is_object(Kind::Test, value) {
-        return None;
-    }
-    let regs = registers_of(k, value.get("regs"))?;
-    let vecs = vectors_of(k, value.get("ymm"))?;
     let pieces = pieces_of(value.get("mem"))?;
     let size = size_of(pieces)?;
-    Some((regs, vecs, pieces, size))
+    Some((pieces, size))
 }
 
 // Test `k`.
-#[tactic(auto, unfolding(crate::specs::ReadingTests::test_of))]
+#[tactic(auto, unfolding(crate::specs::ReadingTests::test_of, crate::specs::Reading::parts_of))]
 fn test_of(alloc: Global, k: u32, value: &Value) -> Result<Test, TestRefusal>
     requires { k ≤ 64 }
     ensures { Gives result (tests.test_of k (view value.now)) }
 {
-    let Some((regs, vecs, pieces, size)) = parts_of(u64::from(k), value) else {
-        return Err(TestRefusal::BadShape(k));
+    let bad = TestRefusal::BadShape(k);
+    if !is_object(Kind::Test, value) {
+        return Err(bad);
+    }
+    let Some(regs) = registers_of(u64::from(k), value.get("regs")) else {
+        return Err(bad);
+    };
+    let Some(vecs) = vectors_of(u64::from(k), value.get("ymm")) else {
+        return Err(bad);
+    };
+    let Some((pieces, size)) = sized_pieces(value) else {
+        return Err(bad);
     };
     if size > MOST_BYTES {
         return Err(TestRefusal::TooManyBytes(k));
     }
     let Some(bytes) = bytes_of(alloc, pieces)? else {
-        return Err(TestRefusal::BadShape(k));
+        return Err(bad);
     };
     Ok(Test { regs, vecs, bytes })
 }

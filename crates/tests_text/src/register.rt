@@ -83,7 +83,10 @@ fn named_registers(k: u64, found: Option<&Value>) -> Option<[u64; 16]>
 {
     let mut regs = [0; 16];
     for n in 0..16usize {
-        regs[n] = register_of(k, n as u64, member_of(found, register_name(n)))?;
+        let Some(value) = register_of(k, n as u64, member_of(found, register_name(n))) else {
+            return None;
+        };
+        regs[n] = value;
     }
     Some(regs)
 }

@@ -115,7 +115,10 @@ fn named_vectors(k: u64, found: Option<&Value>) -> Option<[Bytes32; 16]>
 {
     let mut vecs = [Bytes32 { bytes: [0; 32] }; 16];
     for n in 0..16usize {
-        vecs[n] = vector_of(k, n as u64, member_of(found, numeral(n)))?;
+        let Some(value) = vector_of(k, n as u64, member_of(found, numeral(n))) else {
+            return None;
+        };
+        vecs[n] = value;
     }
     Some(vecs)
 }
