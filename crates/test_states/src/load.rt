@@ -117,13 +117,9 @@ fn filled_spans(alloc: Global, regions: &[Region], pointer: u64, stack: u64, byt
     ensures { IfOk result (λ spans. named.AreFilled regions.now pointer stack bytes.now spans.items) }
 {
     let (first, second) = stack_ranges(pointer, stack);
-    let mut ranges = match Vec::from_slice(alloc, regions) {
-        Ok(ranges) => ranges,
-        Err(_) => return Err(Memory),
-    };
-    if ranges.push(first).is_err() || ranges.push(second).is_err() {
-        return Err(Memory);
-    }
+    let mut ranges = Vec::from_slice(alloc, regions)?;
+    ranges.push(first)?;
+    ranges.push(second)?;
     let mut spans = zero_spans(alloc, &ranges)?;
     put_bytes(&mut spans, bytes);
     Ok(spans)
@@ -136,10 +132,7 @@ fn state_of(alloc: Global, admission: &Admission, test: &Test) -> Result<State, 
     ensures { IfOk result (λ s. IsStartOf admission.now test.now (pure_of s)) }
 {
     let (all, count) = regions_at(admission, &test.regs);
-    let regions = match Vec::from_slice(alloc, &all[..count]) {
-        Ok(regions) => regions,
-        Err(_) => return Err(Memory),
-    };
+    let regions = Vec::from_slice(alloc, &all[..count])?;
     let spans = filled_spans(alloc, &regions, test.regs[4], admission.stack, test.bytes.as_slice())?;
     Ok(State::new(test.regs, test.vecs, spans, regions, admission.stack))
 }

@@ -15,10 +15,8 @@ use std::alloc::Global;
 fn zero_span(alloc: Global, at: u64, len: u64) -> Result<Span, Memory>
     ensures { IfOk result (λ s. named.IsZeroSpan at len s) }
 {
-    match vec![in alloc; 0u8; len as usize] {
-        Ok(bytes) => Ok(Span { at, bytes }),
-        Err(_) => Err(Memory),
-    }
+    let bytes = vec![in alloc; 0u8; len as usize]?;
+    Ok(Span { at, bytes })
 }
 
 /// Spans in order and apart that have each byte of the ranges and hold zeros.
@@ -30,9 +28,7 @@ pub fn zero_spans(alloc: Global, ranges: &[Region]) -> Result<Vec<Span>, Memory>
     let mut from = Some(0u64);
     while let Some((at, len)) = next_range(ranges, from) {
         let span = zero_span(alloc, at, len)?;
-        if spans.push(span).is_err() {
-            return Err(Memory);
-        }
+        spans.push(span)?;
         from = at.checked_add(len);
     }
     Ok(spans)
