@@ -1,7 +1,7 @@
 -- A draft follows its lines: what it tells of them, which lines go over, and that its admission is well formed.
-use Rattle.std.proofs.Common.{◌≡◌, ◌≢◌, ℕ, suc, ◌+◌, ◌-◌, ◌%◌, ◌^◌, ◌<◌, ◌≤◌, ◌⊎◌, inl, inr, Bool, true, false, ◌&&◌, ◌||◌, cond, eqb, leb, List, [], ◌∷◌, ◌++◌, length, map, Option, Some, None, codes, slice_get, refl, sym, ap, ◌∙◌, subst, append-nil, length-append, arith}
-use Rattle.std.specs.List.{AllByRecursion, AllZip, cons_option, filter, filter_map, list_any}
-use Rattle.std.proofs.lemmas.Bool.{both_ways, cases_lt, eqb-true, leb-false, leb-true, le-leb, lt-leb}
+use Rattle.std.proofs.Common.{◌≡◌, ℕ, ◌+◌, ◌<◌, inl, inr, Bool, true, false, ◌||◌, cond, eqb, leb, List, [], ◌∷◌, ◌++◌, length, map, Option, Some, None, codes, slice_get, refl, sym, ap, ◌∙◌, subst, append-nil, length-append, arith}
+use Rattle.std.specs.List.{AllByRecursion, AllZip, cons_option, filter}
+use Rattle.std.proofs.lemmas.Bool.{cases_lt, eqb-true, leb-false, le-leb, lt-leb}
 use Rattle.std.proofs.lemmas.List.{length-map, map-append}
 use Rattle.std.proofs.lemmas.List.Elements.{filter-append, filter_map-append}
 use Rattle.std.proofs.lemmas.List.Folds.{list_any-append}
@@ -19,10 +19,9 @@ use Rattle.admission.specs.WellFormed.{AreBounds, IsNeed, IsWellFormed}
 use Rattle.admission_text.specs.declared.entry.Draft.{Draft}
 use Rattle.admission_text.specs.declared.entry.Entry.{Entry}
 use Rattle.admission_text.specs.declared.entry.Entry.TheVariants as entries
-use Rattle.admission_text.specs.Names.{general_names, IsOutputText, names_64, names_32, names_16, names_8, numerals}
+use Rattle.admission_text.specs.Names.{IsOutputText, names_64, names_32, names_16, names_8, numerals}
 use Rattle.admission_text.specs.Grammar.{IsEntry, IsRequireEntry, Line, has_line, is_of, name_in, region_names, region_number}
 use Rattle.admission_text.specs.Entries.{count_of, goes_over, no_admission, with_entry}
-use Rattle.admission_text.specs.Reading.{names_of}
 use Rattle.admission_text.specs.ReadingLines.{drafted_with, is_live, is_over, is_stack, no_draft}
 use Rattle.admission_text.proofs.EntryTexts.{is_headed, Tells}
 use Rattle.admission_text.proofs.Registers.{place-found}

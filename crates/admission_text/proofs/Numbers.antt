@@ -1,11 +1,11 @@
 -- What the code reads of numbers, against the grammar.
-use Rattle.std.proofs.Common.{◌≡◌, ◌≢◌, ℕ, ◌+◌, ◌-◌, ◌*◌, ◌^◌, ◌<◌, ◌≤◌, inl, inr, Bool, true, false, ◌&&◌, ◌||◌, cond, eqb, ltb, leb, List, [], ◌∷◌, ◌++◌, length, Option, Some, None, codes, decimal, refl, sym, ap, ◌∙◌, subst, arith}
+use Rattle.std.proofs.Common.{◌≡◌, ◌≢◌, ℕ, ◌+◌, ◌-◌, ◌*◌, ◌^◌, ◌<◌, ◌≤◌, inl, inr, true, false, ◌&&◌, ◌||◌, cond, eqb, ltb, leb, List, [], ◌∷◌, ◌++◌, length, Option, Some, None, codes, decimal, refl, sym, ap, ◌∙◌, subst, arith}
 use Rattle.std.specs.List.{list_all}
 use Rattle.std.specs.Str.{all_ascii_digits}
 use Rattle.std.proofs.lemmas.Bool.{and_parts, and_from, or_cases, leb-true, le-leb, le-ltb, ltb-false, eqb-true, eqb-false, ne_eqb}
 use Rattle.std.proofs.lemmas.Fmt.{digits_decimal}
-use Rattle.admission_text.specs.Names.{hex_digit_value, hex_value, is_hex_digit, IsHexText, IsNumberText}
-use Rattle.admission_text.specs.Reading.{after_byte, decimal_of, hex_digits, hex_from, hex_of, number_by, number_of}
+use Rattle.admission_text.specs.Names.{hex_digit_value, hex_value, is_hex_digit, IsNumberText}
+use Rattle.admission_text.specs.Reading.{after_byte, hex_digits, hex_from, hex_of, number_by, number_of}
 use Rattle.admission_text.proofs.Decimals.{chosen_else, chosen_then, decimal-high, decimal-known, decimal-only, own}
 use Rattle.admission_text.proofs.TextParts.{bind-some}
 

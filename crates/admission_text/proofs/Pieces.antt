@@ -1,5 +1,5 @@
 -- Parts of texts, put back before what was cut.
-use Rattle.std.proofs.Common.{◌≡◌, ℕ, ◌+◌, Bool, List, [], ◌∷◌, ◌++◌, Option, Some, None, length}
+use Rattle.std.proofs.Common.{ℕ, ◌+◌, Bool, List, ◌++◌, Option, Some, None, length}
 use Rattle.admission_text.specs.Reading.{◌>>=◌}
 
 -- a list before the first of two parts

@@ -1,16 +1,16 @@
 -- What the code reads of terms and expressions, against the grammar.
-use Rattle.std.proofs.Common.{◌≡◌, ◌≢◌, ℕ, zero, suc, ◌+◌, ◌^◌, ◌<◌, ◌≤◌, ◌⊎◌, inl, inr, Bool, true, false, ◌&&◌, ◌||◌, cond, eqb, leb, not, List, [], ◌∷◌, ◌++◌, length, Option, Some, None, IfSome, codes, slice_get, refl, sym, ap, ◌∙◌, subst, arith}
+use Rattle.std.proofs.Common.{◌≡◌, ℕ, zero, suc, ◌<◌, ◌≤◌, ◌⊎◌, inl, inr, Bool, true, false, ◌||◌, cond, eqb, leb, not, List, [], ◌∷◌, ◌++◌, length, Option, Some, None, IfSome, refl, sym, ap, ◌∙◌, subst, arith}
 use Rattle.std.specs.List.{list_all, AllByRecursion}
 use Rattle.std.specs.Option.{option_map, option_or}
-use Rattle.std.proofs.lemmas.Bool.{and_parts, and_from, both_ways, or_cases, or_from, or_parts, eqb-true, leb-true, ne_eqb, not-true, not_from_false}
+use Rattle.std.proofs.lemmas.Bool.{and_parts, and_from, or_cases, or_from, eqb-true, leb-true, ne_eqb, not-true, not_from_false}
 use Rattle.std.proofs.lemmas.List.Folds.{list_all-append}
 use Rattle.std.proofs.lemmas.Option.{same_Some, slice_get_within}
 use Rattle.admission.specs.declared.expr.Term.{Term}
 use Rattle.admission.specs.declared.expr.Expr.{Expr}
 use Rattle.admission.specs.WellFormed.{IsExpr, IsFirstAdded, IsTerm}
-use Rattle.admission_text.specs.Names.{IsGeneral, IsNumberText, names_64}
+use Rattle.admission_text.specs.Names.{IsGeneral, names_64}
 use Rattle.admission_text.specs.Grammar.{AreTermTexts, IsExprText, IsTermText, sign_of}
-use Rattle.admission_text.specs.Reading.{◌>>=◌, after_byte, cut_at, cut_sign, expr_of, number_of, onto_front, onto_term, register_of, term_by, term_of, terms_by, terms_of}
+use Rattle.admission_text.specs.Reading.{◌>>=◌, after_byte, cut_at, cut_sign, expr_of, number_of, onto_term, register_of, term_by, term_of, terms_by, terms_of}
 use Rattle.admission_text.proofs.Numbers.{number-high, number-known, number-only}
 use Rattle.admission_text.proofs.Registers.{list_all-at, register-known, register-only}
 use Rattle.admission_text.proofs.TextParts.{bind-some, cut-outcome, IsCut}

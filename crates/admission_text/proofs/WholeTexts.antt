@@ -1,16 +1,16 @@
 -- What is read of a whole text is right, and only that is.
-use Rattle.std.proofs.Common.{◌≡◌, ◌≢◌, ℕ, suc, ◌+◌, ◌-◌, ◌^◌, ◌<◌, ◌≤◌, ◌⊎◌, inl, inr, Bool, true, false, ◌||◌, cond, List, [], ◌∷◌, ◌++◌, length, Option, Some, None, Result, Ok, Err, IfOk, codes, refl, sym, ap, ◌∙◌, subst, append-nil, append_assoc, arith}
+use Rattle.std.proofs.Common.{◌≡◌, ℕ, ◌+◌, ◌≤◌, inl, inr, Bool, true, false, cond, List, [], ◌∷◌, ◌++◌, Option, Some, None, Result, Ok, Err, IfOk, refl, sym, ap, ◌∙◌, subst, append-nil, append_assoc, arith}
 use Rattle.std.proofs.lemmas.Bool.{both_ways}
 use Rattle.align_base.specs.Firsts.{◌>>=◌, HasFault, IsFirst}
-use Rattle.align_base.proofs.FirstFaults.{AreAll, ComesFirst, IsItem, IsOutcome, fault-cases, fault-here, fault-none, first-once, outcome-then}
+use Rattle.align_base.proofs.FirstFaults.{AreAll, ComesFirst, IsOutcome, fault-cases, fault-here, fault-none, first-once, outcome-then}
 use Rattle.admission.specs.declared.admission.Admission.{Admission}
 use Rattle.admission.specs.WellFormed.{IsWellFormed}
 use Rattle.admission_text.specs.declared.entry.Draft.{Draft}
 use Rattle.admission_text.specs.declared.entry.Entry.{Entry}
 use Rattle.admission_text.specs.declared.refusal.AdmitRefusal.{AdmitRefusal}
 use Rattle.admission_text.specs.declared.refusal.AdmitRefusal.TheVariants.{BadLine, TooMany, NoLive, Memory}
-use Rattle.admission_text.specs.Grammar.{IsEntry, Line, has_line, is_skipped, lines_from, lines_of, parts}
-use Rattle.admission_text.specs.Entries.{AreEntries, IsAdmissionText, goes_over, no_admission, with_entries, with_entry}
+use Rattle.admission_text.specs.Grammar.{IsEntry, Line, is_skipped, lines_from, lines_of, parts}
+use Rattle.admission_text.specs.Entries.{AreEntries, IsAdmissionText, goes_over, with_entries}
 use Rattle.admission_text.specs.Refusals.{Dead, Faulty, Gives, IsFault, IsRefused, Precedes, Reads, fault_line, given, line_number, rank}
 use Rattle.admission_text.specs.Reading.{entry_of}
 use Rattle.admission_text.specs.ReadingLines.{admission_of, behind_line, behind_lines, drafted_with, finished, is_over, judged, next_line, no_draft}

@@ -1,7 +1,6 @@
 -- Whole admissions: a text and the admission that it spells.
 use Rattle.std.specs.Prelude.{◌≡◌, ℕ, Bool, true, false, ◌||◌, ◌&&◌, nat_le, List, [], ◌∷◌, ◌++◌, length, codes}
 use Rattle.std.specs.List.{filter, list_any}
-use Rattle.align_base.specs.declared.output.Output.{Output}
 use Rattle.admission.specs.declared.admission.Admission.{Admission}
 use Rattle.admission_text.specs.declared.entry.Entry.{Entry}
 use Rattle.admission_text.specs.declared.entry.Entry.TheVariants.{Header, Region, Require, Apart, Scratch, Stack, Live}

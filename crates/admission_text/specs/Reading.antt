@@ -1,5 +1,5 @@
 -- What each function of the code reads of a line, as functions on lists.
-use Rattle.std.specs.Prelude.{◌≡◌, ℕ, zero, suc, ◌+◌, ◌-◌, ◌*◌, ◌%◌, ◌^◌, Bool, true, false, not, ◌&&◌, ◌||◌, ◌==◌, nat_lt, nat_le, if◌then◌else◌, List, [], ◌∷◌, ◌++◌, length, map, Option, Some, None, is_none, option_and_then, slice_index, codes, bytes_eq}
+use Rattle.std.specs.Prelude.{ℕ, zero, suc, ◌+◌, ◌-◌, ◌*◌, ◌%◌, ◌^◌, Bool, true, false, not, ◌&&◌, ◌||◌, ◌==◌, nat_lt, nat_le, if◌then◌else◌, List, [], ◌∷◌, length, map, Option, Some, None, is_none, option_and_then, slice_index, codes, bytes_eq}
 use Rattle.std.specs.List.{list_all}
 use Rattle.std.specs.Char.{is_ascii_digit}
 use Rattle.std.specs.Option.{option_map, option_or}
@@ -18,7 +18,7 @@ use Rattle.admission_text.specs.declared.entry.Entry.TheVariants as entries
 use Rattle.admission_text.specs.declared.entry.Keyword.{Keyword}
 use Rattle.admission_text.specs.declared.entry.Keyword.TheVariants as words
 use Rattle.admission_text.specs.Names.{numerals, general_names, place_from, is_hex_digit, hex_digit_value}
-use Rattle.admission_text.specs.Grammar.{is_lower, is_name_byte, parts, region_number, relation}
+use Rattle.admission_text.specs.Grammar.{is_lower, is_name_byte, parts, region_number}
 
 infixl 10 ◌>>=◌
 abbrev pub ◌>>=◌ : {A B : Type 0} → Option A → (A → Option B) → Option B

@@ -1,0 +1,9 @@
+pub mod HexTexts
+pub mod Collecting
+pub mod Values
+pub mod TestParts
+pub mod Filling
+pub mod Steps
+pub mod FileSteps
+pub mod PartsOf
+pub mod TestFaults

@@ -1,0 +1,4 @@
+pub mod Shapes
+pub mod TestFiles
+pub mod Reading
+pub mod ReadingTests

@@ -1,0 +1,81 @@
+//! Objects by the names of their members.
+ghost use Rattle.std.specs.Prelude.{◌≡◌, option_map};
+ghost use Rattle.serde_json.specs.View.{members_view, view};
+ghost use Rattle.admission_text.specs.Names as names;
+ghost use Rattle.tests_text.specs.Shapes as shapes;
+
+use serde_json::{Map, Value};
+
+/// What an object is of: the whole file, a test, a test's registers or vectors, or a piece of memory.
+#[derive(Clone, Copy, Debug, PartialEq, Eq)]
+pub enum Kind {
+    File,
+    Test,
+    Registers,
+    Vectors,
+    Piece,
+}
+
+// Whether it names a general register of 64 bits.
+fn is_register(name: &[u8]) -> bool
+    ensures { result ≡ shapes.is_among names.names_64 name.now }
+{
+    matches!(
+        name,
+        b"rax" | b"rcx" | b"rdx" | b"rbx" | b"rsp" | b"rbp" | b"rsi" | b"rdi" | b"r8" | b"r9" | b"r10" | b"r11"
+            | b"r12" | b"r13" | b"r14" | b"r15"
+    )
+}
+
+// Whether it is a number from 0 to 15.
+fn is_numeral(name: &[u8]) -> bool
+    ensures { result ≡ shapes.is_among names.numerals name.now }
+{
+    matches!(
+        name,
+        b"0" | b"1" | b"2" | b"3" | b"4" | b"5" | b"6" | b"7" | b"8" | b"9" | b"10" | b"11" | b"12" | b"13" | b"14"
+            | b"15"
+    )
+}
+
+// Whether a member of an object of this kind may have the name.
+fn is_named(kind: Kind, name: &[u8]) -> bool
+    ensures { result ≡ shapes.is_among (shapes.names kind) name.now }
+{
+    match kind {
+        Kind::File => matches!(name, b"tests"),
+        Kind::Test => matches!(name, b"regs" | b"ymm" | b"mem"),
+        Kind::Registers => is_register(name),
+        Kind::Vectors => is_numeral(name),
+        Kind::Piece => matches!(name, b"at" | b"hex"),
+    }
+}
+
+// Whether each member has a name of its kind.
+fn are_named(kind: Kind, members: &Map<String, Value>) -> bool
+    ensures { result ≡ shapes.are_named (shapes.names kind) (members_view members.now.entries) }
+{
+    for (name, _member) in members.iter() {
+        if !is_named(kind, name.as_str().as_bytes()) {
+            return false;
+        }
+    }
+    true
+}
+
+/// Whether it is an object whose members are among those of its kind.
+pub fn is_object(kind: Kind, value: &Value) -> bool
+    ensures { result ≡ shapes.is_object kind (view value.now) }
+{
+    match value.as_object() {
+        Some(members) => are_named(kind, members),
+        None => false,
+    }
+}
+
+/// The member of this name, where there are both the object and the member.
+pub fn member_of<'v>(found: Option<&'v Value>, name: &str) -> Option<&'v Value>
+    ensures { option_map (λ v. view v.now) result ≡ shapes.member_of (option_map (λ v. view v.now) found.entry) name.now }
+{
+    found?.get(name)
+}
