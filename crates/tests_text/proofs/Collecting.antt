@@ -26,9 +26,10 @@ collected-known {A = A} f (suc count) n xs h =
     let x = bind-some (f n) (λ x. collected f (n + 1) count >>= λ xs. Some (x ∷ xs)) xs h in
     let rest = bind-some (collected f (n + 1) count) (λ xs. Some (x.0 ∷ xs)) xs x.2 in
     let more = collected-known f count (n + 1) rest.0 rest.1 in
-    let is : x.0 ∷ rest.0 ≡ xs = same_Some (x.0 ∷ rest.0) xs rest.2 in
-    (ap length (sym is) ∙ omega (arith, more.0),
-    λ k d below. subst (λ (ys : List A). f (n + k) ≡ Some (get_or ys k d)) is (place x.0 rest.0 x.1 more.1 k d below))
+    let is : x.0 ∷ rest.0 ≡ xs = same_Some (x.0 ∷ rest.0) xs rest.2 in (
+      ap length (sym is) ∙ omega (arith, more.0),
+      λ k d below. subst (λ (ys : List A). f (n + k) ≡ Some (get_or ys k d)) is (place x.0 rest.0 x.1 more.1 k d below),
+    )
   where
     place : (x : A) (rest : List A) → f n ≡ Some x → ((k : ℕ) (d : A) → k < count → f (n + 1 + k) ≡ Some (get_or rest k d)) → (k : ℕ) (d : A) → k < suc count
         → f (n + k) ≡ Some (get_or (x ∷ rest) k d)
@@ -49,6 +50,7 @@ collected-only f (x ∷ xs) (suc count) n long each =
   where
     n-zero : (m : ℕ) → m + 0 ≡ m
     n-zero m = omega arith
+
     n-suc : (m k : ℕ) → m + 1 + k ≡ m + suc k
     n-suc m k = omega arith
 

@@ -36,10 +36,11 @@ hex-known (x ∷ y ∷ rest) h = let s = splits x y rest h in (x, y, rest, refl,
 pub hex-only : (bytes text : List ℕ) → AreHexBytes text bytes → (is_hex_text text ≡ true) × (decoded text ≡ bytes)
 hex-only [] text are = (ap is_hex_text are, ap decoded are)
 hex-only (b ∷ bs) text are =
-    let p = hex-only bs are.2 are.7 in
-    (ap is_hex_text are.3 ∙ joins are.0 are.1 are.2 are.4 are.5 p.0,
-    ap decoded are.3 ∙ ap (λ (rest : List ℕ). (16 * hex_digit_value are.0 + hex_digit_value are.1) ∷ rest) p.1
-    ∙ ap (λ (x : ℕ). x ∷ bs) (sym are.6))
+    let p = hex-only bs are.2 are.7 in (
+      ap is_hex_text are.3 ∙ joins are.0 are.1 are.2 are.4 are.5 p.0,
+      ap decoded are.3 ∙ ap (λ (rest : List ℕ). (16 * hex_digit_value are.0 + hex_digit_value are.1) ∷ rest) p.1
+          ∙ ap (λ (x : ℕ). x ∷ bs) (sym are.6),
+    )
 
 -- half as many bytes as digits
 pub length-decoded : (text : List ℕ) → is_hex_text text ≡ true → length (decoded text) ≡ length text / 2

@@ -31,7 +31,7 @@ pub parts-known : (k : ℕ) (d : Data) (p : Parts) → parts_of k d ≡ Some p �
 unfolding parts_of
 parts-known k d p h =
     let regs = bind-some (cond (is_object kinds.Test d) (registers_of k (get (codes "regs") d)) None)
-      (λ regs. vectors_of k (get (codes "ymm") d) >>= λ vecs. (sized_pieces d >>= λ sized. Some (regs, vecs, sized.0, sized.1))) p h in
+    (λ regs. vectors_of k (get (codes "ymm") d) >>= λ vecs. (sized_pieces d >>= λ sized. Some (regs, vecs, sized.0, sized.1))) p h in
     let vecs = bind-some (vectors_of k (get (codes "ymm") d)) (λ vecs. sized_pieces d >>= λ sized. Some (regs.0, vecs, sized.0, sized.1)) p regs.2 in
     let sized = bind-some (sized_pieces d) (λ sized. Some (regs.0, vecs.0, sized.0, sized.1)) p vecs.2 in
     let pieces = bind-some (pieces_of (get (codes "mem") d)) (λ pieces. size_of 0 pieces >>= λ size. Some (pieces, size)) sized.0 sized.1 in

@@ -70,10 +70,13 @@ sized k d p bytes false is read size over =
 
 test-by : (k : ℕ) (d : Data) (r : Option (List ℕ × List Bytes32 × Items × ℕ)) → parts_of k d ≡ r → IsTestRight k d (test_by k r)
 test-by k d None is =
-    inl (refl, λ t test.
-    let memory = memory-only (get (codes "mem") d) t.bytes test.bytes in
-    let size = size-only memory.0 0 t.bytes memory.2 in
-    none-some (t.regs, t.vecs, memory.0, size.0) (sym is ∙ parts-only k d memory.0 size.0 t test memory.1 size.1))
+    inl (
+      refl,
+      λ t test.
+          let memory = memory-only (get (codes "mem") d) t.bytes test.bytes in
+          let size = size-only memory.0 0 t.bytes memory.2 in
+          none-some (t.regs, t.vecs, memory.0, size.0) (sym is ∙ parts-only k d memory.0 size.0 t test memory.1 size.1),
+    )
 test-by k d (Some p) is =
     let parts = parts-known k d p is in
     let known = size-known p.2 0 p.3 (omega arith) parts.size in
@@ -240,6 +243,7 @@ file-by d (Some ds) is =
   where
     many-of : (xs : Items) → 64 < count_of xs → 64 < length (all_numbered xs)
     many-of xs h = omega (arith, count-is xs 1)
+
     few-of : (xs : Items) → count_of xs ≤ 64 → length (all_numbered xs) ≤ 64
     few-of xs h = omega (arith, count-is xs 1)
 

@@ -54,9 +54,9 @@ registers-known k found regs h =
       named = object-known kinds.Registers found p.0;
       sixteen = all.0;
       each = λ n name there.
-        let below : n < 16 = slice_get_within names_64 n name there in
-        let at : register_of k n (member_of found (name_at names_64 n)) ≡ Some (get_or regs n 0) = ap value (sym (zero-first n)) ∙ all.1 n 0 below in
-        register-known k n (member_of found name) (get_or regs n 0) (ap (λ (x : List ℕ). register_of k n (member_of found x)) (sym (name-is names_64 n name there)) ∙ at);
+          let below : n < 16 = slice_get_within names_64 n name there in
+          let at : register_of k n (member_of found (name_at names_64 n)) ≡ Some (get_or regs n 0) = ap value (sym (zero-first n)) ∙ all.1 n 0 below in
+          register-known k n (member_of found name) (get_or regs n 0) (ap (λ (x : List ℕ). register_of k n (member_of found x)) (sym (name-is names_64 n name there)) ∙ at);
     }
 
 pub registers-only : (k : ℕ) (found : Option Data) (regs : List ℕ) → AreRegisters k found regs → registers_of k found ≡ Some regs
@@ -64,10 +64,10 @@ unfolding registers_of
 registers-only k found regs are =
     let value : ℕ → Option ℕ = λ n. register_of k n (member_of found (name_at names_64 n)) in
     let all : collected value 0 16 ≡ Some regs = collected-only value regs 16 0 are.sixteen (λ n v there.
-      let below : n < length regs = slice_get_within regs n v there in
-      let named : slice_get names_64 n ≡ Some (name_at names_64 n) = slice_get-get_or names_64 n [] (omega (arith, are.sixteen)) in
-      let read : get_or regs n 0 ≡ v = get_or_from_slice_get regs n v 0 there in
-      ap value (zero-first n) ∙ register-only k n (member_of found (name_at names_64 n)) (get_or regs n 0) (are.each n (name_at names_64 n) named) ∙ ap (λ (x : ℕ). Some x) read) in
+    let below : n < length regs = slice_get_within regs n v there in
+    let named : slice_get names_64 n ≡ Some (name_at names_64 n) = slice_get-get_or names_64 n [] (omega (arith, are.sixteen)) in
+    let read : get_or regs n 0 ≡ v = get_or_from_slice_get regs n v 0 there in
+    ap value (zero-first n) ∙ register-only k n (member_of found (name_at names_64 n)) (get_or regs n 0) (are.each n (name_at names_64 n) named) ∙ ap (λ (x : ℕ). Some x) read) in
     let object = object-only kinds.Registers found are.named in
     rw object all
 
@@ -115,11 +115,11 @@ vectors-known k found vecs h =
       named = object-known kinds.Vectors found p.0;
       sixteen = all.0;
       each = λ n name v there is.
-        let below : n < 16 = slice_get_within numerals n name there in
-        let at : vector_of k n (member_of found (name_at numerals n)) ≡ Some (get_or vecs n v) = ap value (sym (zero-first n)) ∙ all.1 n v below in
-        let same : get_or vecs n v ≡ v = get_or_from_slice_get vecs n v v is in
-        vector-known k n (member_of found name) v
-        (ap (λ (x : List ℕ). vector_of k n (member_of found x)) (sym (name-is numerals n name there)) ∙ at ∙ ap (λ (x : Bytes32). Some x) same);
+          let below : n < 16 = slice_get_within numerals n name there in
+          let at : vector_of k n (member_of found (name_at numerals n)) ≡ Some (get_or vecs n v) = ap value (sym (zero-first n)) ∙ all.1 n v below in
+          let same : get_or vecs n v ≡ v = get_or_from_slice_get vecs n v v is in
+          vector-known k n (member_of found name) v
+          (ap (λ (x : List ℕ). vector_of k n (member_of found x)) (sym (name-is numerals n name there)) ∙ at ∙ ap (λ (x : Bytes32). Some x) same);
     }
 
 pub vectors-only : (k : ℕ) (found : Option Data) (vecs : List Bytes32) → AreVectors k found vecs → vectors_of k found ≡ Some vecs
@@ -127,9 +127,9 @@ unfolding vectors_of
 vectors-only k found vecs are =
     let value : ℕ → Option Bytes32 = λ n. vector_of k n (member_of found (name_at numerals n)) in
     let all : collected value 0 16 ≡ Some vecs = collected-only value vecs 16 0 are.sixteen (λ n v there.
-      let below : n < length vecs = slice_get_within vecs n v there in
-      let named : slice_get numerals n ≡ Some (name_at numerals n) = slice_get-get_or numerals n [] (omega (arith, are.sixteen)) in
-      ap value (zero-first n) ∙ vector-only k n (member_of found (name_at numerals n)) v (are.each n (name_at numerals n) v named there)) in
+    let below : n < length vecs = slice_get_within vecs n v there in
+    let named : slice_get numerals n ≡ Some (name_at numerals n) = slice_get-get_or numerals n [] (omega (arith, are.sixteen)) in
+    ap value (zero-first n) ∙ vector-only k n (member_of found (name_at numerals n)) v (are.each n (name_at numerals n) v named there)) in
     let object = object-only kinds.Vectors found are.named in
     rw object all
 
@@ -143,9 +143,9 @@ piece-known : (d : Data) (at : ℕ) (text : List ℕ) → piece_of d ≡ Some (a
 unfolding piece_of
 piece-known d at text h =
     let place = bind-some (cond (is_object kinds.Piece d) (get (codes "at") d) None)
-      (λ place. whole_of place >>= λ a. (get (codes "hex") d >>= λ digits. (as_str digits >>= λ t. cond (is_hex_text t && leb (a + length t / 2) (2 ^ 64)) (Some (a, t)) None))) (at, text) h in
+    (λ place. whole_of place >>= λ a. (get (codes "hex") d >>= λ digits. (as_str digits >>= λ t. cond (is_hex_text t && leb (a + length t / 2) (2 ^ 64)) (Some (a, t)) None))) (at, text) h in
     let whole = bind-some (whole_of place.0)
-      (λ a. get (codes "hex") d >>= λ digits. (as_str digits >>= λ t. cond (is_hex_text t && leb (a + length t / 2) (2 ^ 64)) (Some (a, t)) None)) (at, text) place.2 in
+    (λ a. get (codes "hex") d >>= λ digits. (as_str digits >>= λ t. cond (is_hex_text t && leb (a + length t / 2) (2 ^ 64)) (Some (a, t)) None)) (at, text) place.2 in
     let digits = bind-some (get (codes "hex") d) (λ digits. as_str digits >>= λ t. cond (is_hex_text t && leb (whole.0 + length t / 2) (2 ^ 64)) (Some (whole.0, t)) None) (at, text) whole.2 in
     let str = bind-some (as_str digits.0) (λ t. cond (is_hex_text t && leb (whole.0 + length t / 2) (2 ^ 64)) (Some (whole.0, t)) None) (at, text) digits.2 in
     let within = chosen_then (is_hex_text str.0 && leb (whole.0 + length str.0 / 2) (2 ^ 64)) (Some (whole.0, str.0)) (at, text) str.2 in
@@ -185,9 +185,14 @@ unfolding bytes_of
 bytes-known no_items bytes h = sym (same_Some [] bytes h)
 bytes-known (item d ds) bytes h =
     let piece = bind-some (piece_of d) (λ piece. bytes_of ds >>= λ more. Some (addressed piece.0 (decoded piece.1) ++ more)) bytes h in
-    let more = bind-some (bytes_of ds) (λ more. Some (addressed piece.0.0 (decoded piece.0.1) ++ more)) bytes piece.2 in
-    (piece.0.0, decoded piece.0.1, more.0, (piece-known d piece.0.0 piece.0.1 piece.1).piece, bytes-known ds more.0 more.1,
-    sym (same_Some (addressed piece.0.0 (decoded piece.0.1) ++ more.0) bytes more.2))
+    let more = bind-some (bytes_of ds) (λ more. Some (addressed piece.0.0 (decoded piece.0.1) ++ more)) bytes piece.2 in (
+      piece.0.0,
+      decoded piece.0.1,
+      more.0,
+      (piece-known d piece.0.0 piece.0.1 piece.1).piece,
+      bytes-known ds more.0 more.1,
+      sym (same_Some (addressed piece.0.0 (decoded piece.0.1) ++ more.0) bytes more.2),
+    )
 
 pub bytes-only : (ds : Items) (bytes : List (ℕ × ℕ)) → ArePieces ds bytes → bytes_of ds ≡ Some bytes
 unfolding bytes_of
@@ -212,11 +217,12 @@ size-known (item d ds) n size small h =
     let is = piece-known d piece.0.0 piece.0.1 piece.1 in
     let more = size-known ds (min (n + length piece.0.1 / 2) (2 ^ 64 - 1)) size (omega arith) piece.2 in
     let here : List (ℕ × ℕ) = addressed piece.0.0 (decoded piece.0.1) in
-    let count : length here ≡ length piece.0.1 / 2 = length-addressed (decoded piece.0.1) piece.0.0 ∙ length-decoded piece.0.1 is.hex in
-    (here ++ more.0,
-    ap (λ (o : Option (ℕ × List ℕ)). o >>= λ found. (bytes_of ds >>= λ rest. Some (addressed found.0 (decoded found.1) ++ rest))) piece.1
-    ∙ ap (λ (o : Option (List (ℕ × ℕ))). o >>= λ rest. Some (here ++ rest)) more.1,
-    omega (arith, more.2, count, length-append here more.0))
+    let count : length here ≡ length piece.0.1 / 2 = length-addressed (decoded piece.0.1) piece.0.0 ∙ length-decoded piece.0.1 is.hex in (
+      here ++ more.0,
+      ap (λ (o : Option (ℕ × List ℕ)). o >>= λ found. (bytes_of ds >>= λ rest. Some (addressed found.0 (decoded found.1) ++ rest))) piece.1
+          ∙ ap (λ (o : Option (List (ℕ × ℕ))). o >>= λ rest. Some (here ++ rest)) more.1,
+      omega (arith, more.2, count, length-append here more.0),
+    )
 
 pub size-only : (ds : Items) (n : ℕ) (bytes : List (ℕ × ℕ)) → bytes_of ds ≡ Some bytes → (size : ℕ) × (size_of n ds ≡ Some size)
 unfolding size_of bytes_of

@@ -19,6 +19,7 @@ use std::alloc::Global;
 
 // How many bytes a test may name, and how many tests a file may have.
 const MOST_BYTES: u64 = 65536;
+
 const MOST_TESTS: usize = 64;
 
 // The pieces of a test, and how many bytes they have.

@@ -22,8 +22,22 @@ fn is_register(name: &[u8]) -> bool
 {
     matches!(
         name,
-        b"rax" | b"rcx" | b"rdx" | b"rbx" | b"rsp" | b"rbp" | b"rsi" | b"rdi" | b"r8" | b"r9" | b"r10" | b"r11"
-            | b"r12" | b"r13" | b"r14" | b"r15"
+        b"rax"
+            | b"rcx"
+            | b"rdx"
+            | b"rbx"
+            | b"rsp"
+            | b"rbp"
+            | b"rsi"
+            | b"rdi"
+            | b"r8"
+            | b"r9"
+            | b"r10"
+            | b"r11"
+            | b"r12"
+            | b"r13"
+            | b"r14"
+            | b"r15"
     )
 }
 
@@ -33,7 +47,20 @@ fn is_numeral(name: &[u8]) -> bool
 {
     matches!(
         name,
-        b"0" | b"1" | b"2" | b"3" | b"4" | b"5" | b"6" | b"7" | b"8" | b"9" | b"10" | b"11" | b"12" | b"13" | b"14"
+        b"0" | b"1"
+            | b"2"
+            | b"3"
+            | b"4"
+            | b"5"
+            | b"6"
+            | b"7"
+            | b"8"
+            | b"9"
+            | b"10"
+            | b"11"
+            | b"12"
+            | b"13"
+            | b"14"
             | b"15"
     )
 }

@@ -22,9 +22,11 @@ loop-value-preserved c =
     let h = c.loop-value in
     let xs = c.args.values.now in
     let left = view-more xs h.value-index c.value-item.result c.loop-value-test.true c.value-item.is in
-    let count : h.k + 1 ≡ h.value-index + 1 = omega (arith, h.invariant.1) in
-    (h.invariant.0 ∙ ap (λ (ds : Items). behind_those h.tests (tests_from (h.k + 1) ds)) left
-    ∙ test-more (h.k + 1) (view c.value-item.result) (items_view (drop (h.value-index + 1) xs)) h.tests c.push.new.self c.in_ok-test.test c.in_ok-test.ensures c.in_ok-push.ensures.ok, count)
+    let count : h.k + 1 ≡ h.value-index + 1 = omega (arith, h.invariant.1) in (
+      h.invariant.0 ∙ ap (λ (ds : Items). behind_those h.tests (tests_from (h.k + 1) ds)) left
+          ∙ test-more (h.k + 1) (view c.value-item.result) (items_view (drop (h.value-index + 1) xs)) h.tests c.push.new.self c.in_ok-test.test c.in_ok-test.ensures c.in_ok-push.ensures.ok,
+      count,
+    )
 
 pub returns : goal.returns
 returns c =

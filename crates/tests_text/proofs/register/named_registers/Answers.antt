@@ -25,9 +25,10 @@ loop-n-preserved c =
     let value : ℕ → Option ℕ = λ n. register_of c.args.k n (member_of (option_map (λ (v : Bor Value). view v.now) c.args.found) (name_at names_64 n)) in
     let found = option_map (λ (v : Bor Value). view v.now) c.args.found in
     let read : c.register_of.result ≡ value h.n =
-    c.register_of.ensures ∙ ap (λ (o : Option Data). register_of c.args.k h.n o) (c.member_of.ensures ∙ ap (member_of found) c.register_name.ensures) in
-    (collected-more value h.regs (set h.regs h.n c.in-Some.value) h.n c.in-Some.value h.invariant.0 h.invariant.1 c.loop-n-test.true (sym read ∙ c.in-Some.is) refl,
-    length-set h.regs h.n c.in-Some.value ∙ h.invariant.1)
+    c.register_of.ensures ∙ ap (λ (o : Option Data). register_of c.args.k h.n o) (c.member_of.ensures ∙ ap (member_of found) c.register_name.ensures) in (
+      collected-more value h.regs (set h.regs h.n c.in-Some.value) h.n c.in-Some.value h.invariant.0 h.invariant.1 c.loop-n-test.true (sym read ∙ c.in-Some.is) refl,
+      length-set h.regs h.n c.in-Some.value ∙ h.invariant.1,
+    )
 
 pub returns : goal.returns
 returns c =

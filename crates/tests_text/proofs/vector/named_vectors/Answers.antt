@@ -26,9 +26,10 @@ loop-n-preserved c =
     let value : ℕ → Option Bytes32 = λ n. vector_of c.args.k n (member_of (option_map (λ (v : Bor Value). view v.now) c.args.found) (name_at numerals n)) in
     let found = option_map (λ (v : Bor Value). view v.now) c.args.found in
     let read : c.vector_of.result ≡ value h.n =
-    c.vector_of.ensures ∙ ap (λ (o : Option Data). vector_of c.args.k h.n o) (c.member_of.ensures ∙ ap (member_of found) c.numeral.ensures) in
-    (collected-more value h.vecs (set h.vecs h.n c.in-Some.value) h.n c.in-Some.value h.invariant.0 h.invariant.1 c.loop-n-test.true (sym read ∙ c.in-Some.is) refl,
-    length-set h.vecs h.n c.in-Some.value ∙ h.invariant.1)
+    c.vector_of.ensures ∙ ap (λ (o : Option Data). vector_of c.args.k h.n o) (c.member_of.ensures ∙ ap (member_of found) c.numeral.ensures) in (
+      collected-more value h.vecs (set h.vecs h.n c.in-Some.value) h.n c.in-Some.value h.invariant.0 h.invariant.1 c.loop-n-test.true (sym read ∙ c.in-Some.is) refl,
+      length-set h.vecs h.n c.in-Some.value ∙ h.invariant.1,
+    )
 
 pub returns : goal.returns
 returns c =
