@@ -12,6 +12,7 @@ import os
 import resource
 import subprocess
 import sys
+import tempfile
 import time
 from collections import defaultdict
 from pathlib import Path
@@ -56,17 +57,16 @@ def kind_of(pid):
 
 
 def main():
-    run = subprocess.Popen(["rt", "ci", "--anew"], stdout=subprocess.PIPE, stderr=subprocess.STDOUT, text=True)
-    spent, kinds = {}, {}
-    os.set_blocking(run.stdout.fileno(), False)
-    text, start = "", time.monotonic()
+    log = open(os.path.join(tempfile.gettempdir(), "align-gate.log"), "w+")
+    run = subprocess.Popen(["rt", "ci", "--anew"], stdout=log, stderr=subprocess.STDOUT)
+    spent, kinds, start = {}, {}, time.monotonic()
     while run.poll() is None:
         for pid, ticks in children([run.pid]).items():
             kinds[pid] = kinds.get(pid) or kind_of(pid)
             spent[pid] = ticks
-        text += run.stdout.read() or ""
         time.sleep(0.1)
-    text += run.stdout.read() or ""
+    log.seek(0)
+    text = log.read()
     table = defaultdict(float)
     for pid, ticks in spent.items():
         if kinds.get(pid):
@@ -81,6 +81,9 @@ def main():
     print("| all | " + " | ".join(f"{value:.1f} min" for value in sums) + " |")
     print(f"\nwhole {whole / 60:.1f} min of processor time, rest {whole / 60 - sum(sums):.1f} min, "
           f"{(time.monotonic() - start) / 60:.1f} min of clock, {used.ru_maxrss // 1024} MiB at most in one process")
+    for line in text.splitlines():
+        if line.startswith("rt: ") and ("refused" in line or "failed" in line) or run.returncode and "error" in line:
+            print(line[:200])
     print(text.strip().splitlines()[-1] if text.strip() else "no output")
     return run.returncode
 

@@ -1,0 +1,1 @@
+long f(long a, long b, long c) { return a - b - c; }

@@ -1,0 +1,1 @@
+long g(long a, long b, long c) { return a - c - b; }
