@@ -5,7 +5,7 @@
 cd "$(dirname "$0")/.." || exit 1
 PATH="$PATH:/opt/rattle/bin"
 [ "$1" = --proved ] && { proved=yes; shift; }
-pairs=${1:-swapped_sum longer_way off_by_one wrong_register}
+pairs=${1:-swapped_sum longer_way off_by_one wrong_register compiled_difference}
 if [ -n "$proved" ]; then
   echo "building and proving ..." >&2
   (cd crates/align && rt run -- decide) >/dev/null 2>&1

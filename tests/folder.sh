@@ -8,7 +8,7 @@ trap 'rm -rf "$work"' EXIT
 cd "$work" || exit 2
 failures=0
 
-# expect NAME STATUS OUTPUT WORD..: the program, run on these words, ends with the status and prints the output
+# expect NAME STATUS OUTPUT ARGUMENT..: the program, run on these arguments, ends with the status and prints the output
 expect() {
   name=$1; status=$2; output=$3; shift 3
   printed=$("$align" "$@"; echo "status $?")
@@ -53,15 +53,15 @@ expect missing_left 5 '' decide missing f swapped g
 expect missing_right 5 '' decide sum f missing g
 expect folder_as_file 5 '' decide . f swapped g
 expect empty_left 3 'refused left line 0 no-function' decide empty f swapped g
-expect second_return 3 'refused right line 3 unknown-instruction' decide sum f twice f
+expect second_return 3 'refused right line 3 not-plain' decide sum f twice f
 expect large_left 3 'refused left large 16777217' decide large f swapped g
 expect line_ends_alone 3 'refused left line 0 no-function' decide line_ends f swapped g
-expect no_words 4 "$usage"
-expect three_plain_words 4 "$usage" decide sum f swapped
+expect no_arguments 4 "$usage"
+expect three_plain_arguments 4 "$usage" decide sum f swapped
 expect option 4 "$usage" decide --steps=5 sum f swapped g
 printed=$("$align" decide "$(printf 'a\377')" f swapped g; echo "status $?")
 [ "$printed" = "$usage
-status 4" ] && echo "ok   word_that_is_no_text" || { echo "FAIL word_that_is_no_text: $printed"; failures=$((failures + 1)); }
+status 4" ] && echo "ok   argument_that_is_no_text" || { echo "FAIL argument_that_is_no_text: $printed"; failures=$((failures + 1)); }
 if [ -w /dev/full ]; then
   "$align" decide sum f swapped g >/dev/full
   [ $? = 6 ] && echo "ok   full_output" || { echo "FAIL full_output"; failures=$((failures + 1)); }
