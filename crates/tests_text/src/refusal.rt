@@ -11,15 +11,15 @@ pub enum TestRefusal {
     #[error("the tests are no JSON")]
     NotJson,
     /// The value of this test is not as it should be; 0 is the outer object.
-    #[error("test {0} has not the shape of a test")]
+    #[error("number {0} of the tests has another shape")]
     BadShape(u32),
     /// There are more than 64 tests.
     #[error("there are more than 64 tests")]
     TooMany,
     /// This test names more than 65,536 bytes of memory.
-    #[error("test {0} names more than 65,536 bytes of memory")]
+    #[error("number {0} of the tests names more than 65,536 bytes of memory")]
     TooManyBytes(u32),
-    /// Memory was wanted and not found.
+    /// Out of memory.
     #[error("out of memory")]
     Memory,
 }
