@@ -48,12 +48,12 @@ def kind_of(pid):
         folder = os.readlink(f"/proc/{pid}/cwd")
     except OSError:
         return None
-    if len(words) < 4 or not words[0].endswith("rattle") or words[1] != "check" or "--crate-name" not in words:
+    if len(words) < 4 or not words[0].endswith("rattle") or words[1] not in ("check", "build", "test") or "--crate-name" not in words:
         return None
     crate = words[words.index("--crate-name") + 1]
     if "rt-edit" in folder:
         return crate, "edits"
-    return crate, "tests" if "--test" in words else "proofs"
+    return crate, "tests" if "--test" in words or words[1] == "test" else "proofs"
 
 
 def main():

@@ -40,11 +40,12 @@ done
 if command -v as >/dev/null; then
   python3 - <<'P'
 import subprocess, time
-best = None
-for turn in range(3):
-    start = time.monotonic()
-    subprocess.run(["as", "function.s", "-o", "function.o"], check=True)
-    best = min(best or 1e9, time.monotonic() - start)
-print(f"as function.s: {best:.2f} s")
+for text in ("function.s", "labels.s"):
+    best = None
+    for turn in range(3):
+        start = time.monotonic()
+        subprocess.run(["as", text, "-o", "object.o"], stderr=subprocess.DEVNULL)
+        best = min(best or 1e9, time.monotonic() - start)
+    print(f"as {text}: {best:.2f} s")
 P
 fi
