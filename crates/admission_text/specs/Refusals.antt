@@ -21,6 +21,7 @@ fault_line (TooMany n) = n
 fault_line NoLive = 0
 fault_line Memory = 0
 
+-- the order of the faults of one line
 abbrev pub rank : AdmitRefusal → ℕ
 rank (BadLine n) = 0
 rank (TooMany n) = 1
