@@ -81,7 +81,8 @@ abbrev pub IsTermText : List ℕ → Term → Type 0
 IsTermText text t =
     (IsNumberText text t.c × (t.reg ≡ None))
     ⊎ (((n : ℕ) × IsGeneral text n 64 × (t.c ≡ 1) × (t.reg ≡ Some n))
-    ⊎ ((number register : List ℕ) × (n : ℕ) × IsNumberText number t.c × IsGeneral register n 64 × (text ≡ number ++ (codes "*" ++ register)) × (t.reg ≡ Some n)))
+    ⊎ ((number register : List ℕ) × (n : ℕ) × IsNumberText number t.c × IsGeneral register n 64
+    × (text ≡ number ++ (codes "*" ++ register)) × (t.reg ≡ Some n)))
 
 -- what stands before a term that is added, or subtracted
 abbrev pub sign_of : Bool → ℕ

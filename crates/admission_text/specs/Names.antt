@@ -56,7 +56,8 @@ IsGeneral text n w = (name : List ℕ) × (slice_get (general_names w) n ≡ Som
 abbrev pub IsOutputText : List ℕ → Output → Type 0
 IsOutputText text (Reg n w) = IsGeneral text n w
 IsOutputText text (Vec n w) =
-    (prefix numeral : List ℕ) × IsVectorPrefix prefix w × (slice_get numerals n ≡ Some numeral) × (text ≡ codes "%" ++ prefix ++ numeral)
+    (prefix numeral : List ℕ) × IsVectorPrefix prefix w × (slice_get numerals n ≡ Some numeral)
+    × (text ≡ codes "%" ++ prefix ++ numeral)
 
 -- a digit of base 16: 0 to 9, a to f or A to F
 abbrev pub is_hex_digit : ℕ → Bool

@@ -105,7 +105,9 @@ decimal_of digits =
 unfoldable pub hex_from : ℕ → List ℕ → Option ℕ
 hex_from n [] = Some n
 hex_from n (c ∷ cs) =
-    if is_hex_digit c then (if nat_lt (2 ^ 64 - 1) (16 * n + hex_digit_value c) then None else hex_from (16 * n + hex_digit_value c) cs) else None
+    if is_hex_digit c
+    then (if nat_lt (2 ^ 64 - 1) (16 * n + hex_digit_value c) then None else hex_from (16 * n + hex_digit_value c) cs)
+    else None
 
 -- a number in digits of base 16
 unfoldable pub hex_of : List ℕ → Option ℕ
@@ -160,8 +162,8 @@ vector_output letter w name = do
 -- the register of this name, without its percent sign
 unfoldable pub output_named : List ℕ → Option Output
 output_named name =
-    option_or (option_or (option_or (option_or (option_or (general_output 64 name) (general_output 32 name)) (general_output 16 name)) (general_output 8 name))
-    (vector_output 120 128 name)) (vector_output 121 256 name)
+    option_or (option_or (option_or (option_or (option_or (general_output 64 name) (general_output 32 name))
+    (general_output 16 name)) (general_output 8 name)) (vector_output 120 128 name)) (vector_output 121 256 name)
 
 -- the output that is written so
 unfoldable pub output_of : List ℕ → Option Output

@@ -37,7 +37,12 @@ is_live _ = false
 
 -- the draft behind a line
 abbrev pub drafted_with : Draft → Entry → Draft
-drafted_with d e = record { admission = with_entry d.admission e; headed = true; stacked = d.stacked || is_stack e; lived = d.lived || is_live e }
+drafted_with d e = record {
+  admission = with_entry d.admission e;
+  headed = true;
+  stacked = d.stacked || is_stack e;
+  lived = d.lived || is_live e;
+}
 
 -- a line of this number
 abbrev pub judged : ℕ → Draft → Option Entry → Result Draft AdmitRefusal

@@ -54,7 +54,8 @@ is_object_or_none (Some d) test = test d
 -- the registers of test k
 unfoldable pub registers_of : ℕ → Option Data → Option (List ℕ)
 registers_of k found =
-    if is_object_or_none found (is_object kinds.Registers) then collected (λ n. register_of k n (member_of found (name_at names_64 n))) 0 16 else None
+    if is_object_or_none found (is_object kinds.Registers)
+    then collected (λ n. register_of k n (member_of found (name_at names_64 n))) 0 16 else None
 
 -- a vector with these bytes
 abbrev pub vector : List ℕ → Bytes32
@@ -76,7 +77,8 @@ vector_of k n (Some d) = as_str d >>= vector_in
 -- the vector registers of test k
 unfoldable pub vectors_of : ℕ → Option Data → Option (List Bytes32)
 vectors_of k found =
-    if is_object_or_none found (is_object kinds.Vectors) then collected (λ n. vector_of k n (member_of found (name_at numerals n))) 0 16 else None
+    if is_object_or_none found (is_object kinds.Vectors)
+    then collected (λ n. vector_of k n (member_of found (name_at numerals n))) 0 16 else None
 
 -- the address and the digits of a piece of memory that ends at 2^64 at most
 unfoldable pub piece_of : Data → Option (ℕ × List ℕ)
