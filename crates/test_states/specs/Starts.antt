@@ -1,5 +1,5 @@
 -- The start state of a test under an admission, and which tests have one. All of it is this project's own.
-use Rattle.std.specs.Prelude.{◌≡◌, ℕ, ◌+◌, ◌^◌, ◌%◌, ◌<◌, ◌≤◌, ◌==◌, List, [], ◌∷◌, map, sum_by, if◌then◌else◌}
+use Rattle.std.specs.Prelude.{◌≡◌, ℕ, ◌+◌, ◌<◌, ◌≤◌, map, sum_by}
 use Rattle.std.specs.List.{Any}
 use Rattle.lane_views.specs.declared.Bytes32.{Bytes32}
 use Rattle.machine.specs.declared.state.Region.{Region}
@@ -7,16 +7,7 @@ use Rattle.machine.specs.Machine.{Machine, no_flags}
 use Rattle.admission.specs.declared.admission.Admission.{Admission}
 use Rattle.admission.specs.Admitted.{HasByte, IsAdmitted, regions_of}
 use Rattle.tests_text.specs.declared.test.Test.{Test}
-
--- the byte that pairs of an address and a byte name at an address: that of the last pair with this address, and the given
--- byte where there is none
-abbrev pub named_or : ℕ → List (ℕ × ℕ) → ℕ → ℕ
-named_or byte [] at = byte
-named_or byte (named ∷ more) at = named_or (if named.0 == at then named.1 else byte) more at
-
--- the memory in which each byte is as it is named, and 0 where it is not; addresses wrap at 2^64
-abbrev pub named_memory : List (ℕ × ℕ) → ℕ → ℕ
-named_memory bytes at = named_or 0 bytes (at % 2 ^ 64)
+use Rattle.test_states.specs.Naming.{named_memory}
 
 -- The start state of a test: its registers and vectors, no flag set, the bytes that it names, and the regions and stack
 -- bytes that the admission gives at these registers.

@@ -11,9 +11,14 @@
 //! ```
 #![tactic(auto)]
 
+mod choosing;
+mod range;
+mod ranges;
 mod refusal;
+mod spans;
 mod starts;
 
+pub use range::Range;
 pub use refusal::LoadRefusal;
-pub use starts::load;
+pub use starts::{address_ranges, load};
 pub use tests_text::{Test, TestRefusal, Tests, read_tests};
