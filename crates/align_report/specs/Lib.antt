@@ -1,0 +1,4 @@
+pub mod Values
+pub mod Outputs
+pub mod Changes
+pub mod RunReport
