@@ -15,6 +15,11 @@
 //! ```
 #![tactic(auto)]
 
+mod changes;
+mod law;
+mod outputs;
 mod run;
+mod values;
 
+pub use law::run_report_law;
 pub use run::run_text;
