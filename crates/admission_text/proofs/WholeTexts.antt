@@ -307,6 +307,10 @@ refused-by text e (Err f) out (Dead sound dead means) = absurd (sound f out.has)
 admission-refused : (text : List ℕ) (e : AdmitRefusal) → IsRefused text e → admission_of text ≡ Err e
 admission-refused text e refused = whole text ∙ refused-by text e (entries_of text) (outcome text) refused
 
+-- a text is not both an admission and refused
+pub text-differs : (text : List ℕ) (a : Admission) (e : AdmitRefusal) → IsAdmissionText text a → IsRefused text e → ⊥
+text-differs text a e is refused = let p = admission-only text a is in let q = admission-refused text e refused in cc
+
 -- the answer, where memory may be wanted
 
 -- what is answered is so

@@ -344,3 +344,9 @@ unread-refused text none e (Unread alike is) = ap (λ (x : TestRefusal). Err x) 
 unread-refused text none e (Outer c known without is) = absurd (none c known)
 unread-refused text none e (Many c known ds has many is) = absurd (none c known)
 unread-refused text none e (Faulty c known ds has few first) = absurd (none c known)
+
+-- a text is not both tests and refused
+pub text-differs : (text : List ℕ) (tests : Tests) (e : TestRefusal) → IsTestsText text tests → IsRefused text e → ⊥
+text-differs text tests e is refused =
+    let p : file_of is.value ≡ Ok (with_tests tests.tests) = file-only is.value is.items tests.tests is.has is.few is.each in
+    let q = file-refused text is.value e is.json refused in cc
