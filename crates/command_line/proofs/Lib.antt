@@ -1,0 +1,9 @@
+pub mod Commands
+pub mod Lines
+pub mod Loops
+pub mod Numbers
+pub mod Parsers
+pub mod Pushing
+pub mod Steps
+pub mod Texts
+pub mod Values

@@ -1,0 +1,5 @@
+pub mod Command
+pub mod Parser
+pub mod Parts
+pub mod Reading
+pub mod View
