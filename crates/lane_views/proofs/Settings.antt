@@ -1,0 +1,1 @@
+-- Lanes that are set are read back.
