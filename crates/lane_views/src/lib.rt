@@ -11,6 +11,6 @@ mod numbers;
 mod vector;
 mod view;
 
-pub use laws::{bytes_of_lanes_are_words, set_lanes_are_read_back};
+pub use laws::set_lanes_are_read_back;
 pub use vector::Bytes32;
 pub use view::View;

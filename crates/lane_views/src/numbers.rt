@@ -1,12 +1,12 @@
 //! Numbers of up to eight bytes, the lowest first.
-ghost use Rattle.std.specs.Prelude.{◌≡◌, ◌^◌, ◌<◌, ◌≤◌, length};
+ghost use Rattle.std.specs.Prelude.{◌≡◌, ◌*◌, ◌^◌, ◌<◌, ◌≤◌, length};
 ghost use Rattle.lane_views.specs.Lanes.{bytes_of, number};
 
 /// Bytes as a number.
 pub fn number(bytes: &[u8]) -> u64
     requires { length bytes.now ≤ 8 }
     ensures value { result ≡ number bytes.now }
-    ensures below { result < 256 ^ length bytes.now }
+    ensures below { result < 2 ^ (8 * length bytes.now) }
 {
     let mut place = bytes.len();
     let mut value: u64 = 0;
