@@ -10,9 +10,11 @@
 mod lanes;
 mod lanewise;
 mod moves;
+mod rows;
 mod saturation;
 mod sums;
 
 mod widths;
 
 pub use lanes::vector;
+pub use rows::is_vector_row;
