@@ -23,6 +23,7 @@ mod sink;
 mod status;
 mod sure_shelf;
 mod sure_sink;
+mod vector_op;
 mod whole;
 mod word;
 
@@ -39,4 +40,5 @@ pub use sink::{GiveFault, Sink};
 pub use status::{Side, Status};
 pub use sure_shelf::SureShelf;
 pub use sure_sink::SureSink;
+pub use vector_op::{LaneOp, LaneWidth, MoveOp, VectorOp};
 pub use word::{Memory, Word};

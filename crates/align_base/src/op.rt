@@ -1,5 +1,7 @@
 //! The operations of the instruction table, their conditions, and the flags.
 
+use crate::vector_op::VectorOp;
+
 /// A condition of `cmovCC`, `setCC` and `jCC`, by the first of its names (Intel SDM volume 1, appendix
 /// B, "EFLAGS Condition Codes").
 #[derive(Clone, Copy, Debug, PartialEq, Eq)]
@@ -97,4 +99,6 @@ pub enum Op {
     Nop,
     /// "ENDBR64: Terminate an Indirect Branch in 64-Bit Mode".
     Endbr64,
+    /// An operation on vector registers.
+    Vector(VectorOp),
 }

@@ -3,7 +3,7 @@ use Rattle.std.specs.Prelude.{◌≡◌, ◌^◌, ◌-◌, ◌==◌, ℕ, Bool, 
 use Rattle.std.specs.List.{find, count_by, list_any}
 use Rattle.std.specs.Cmp.Lexicographic.{pointwise}
 use Rattle.align_base.specs.declared.op.Op.{Op}
-use Rattle.align_base.specs.declared.op.Op.TheVariants.{Mov, Movabs, Add, Sub, Cmp, Test, And, Or, Xor, Inc, Dec, Neg, Not, Shl, Shr, Sar, Imul, Lea, Movzx, Movsx, Cltq, Cmov, Set, Jump, Jmp, Push, Pop, Ret, Nop, Endbr64}
+use Rattle.align_base.specs.declared.op.Op.TheVariants.{Mov, Movabs, Add, Sub, Cmp, Test, And, Or, Xor, Inc, Dec, Neg, Not, Shl, Shr, Sar, Imul, Lea, Movzx, Movsx, Cltq, Cmov, Set, Jump, Jmp, Push, Pop, Ret, Nop, Endbr64, Vector}
 use Rattle.insn_table.specs.declared.insn.Operand.{Operand}
 use Rattle.insn_table.specs.declared.insn.Operand.TheVariants.{Reg, Imm, Mem, Pool, Target, Nothing}
 use Rattle.insn_table.specs.declared.insn.Insn.{Insn}
@@ -71,6 +71,7 @@ forms Pop w = one (Register w) ∷ []
 forms Ret w = none ∷ []
 forms Nop w = none ∷ []
 forms Endbr64 w = none ∷ []
+forms (Vector op) w = []
 
 -- a general register of w bits
 abbrev pub is_register : ℕ → Operand → Bool

@@ -135,6 +135,7 @@ pub fn forms_of(op: Op, w: u32) -> Forms
         Op::Jump(_) | Op::Jmp => Forms::one(one(Class::Label)),
         Op::Push | Op::Pop => Forms::one(one(Class::Register(w))),
         Op::Cltq | Op::Ret | Op::Nop | Op::Endbr64 => Forms::one(no_operand()),
+        Op::Vector(_) => Forms::none(),
     }
 }
 

@@ -56,6 +56,7 @@ moves_keep ops.Pop w a b before h = refl
 moves_keep ops.Ret w a b before h = refl
 moves_keep ops.Nop w a b before h = refl
 moves_keep ops.Endbr64 w a b before h = refl
+moves_keep (ops.Vector op) w a b before h = refl
 moves_keep _ w a b before h = cc
 
 -- a sum carries where the numbers' sum has one bit more, a difference borrows where its left operand is below the right

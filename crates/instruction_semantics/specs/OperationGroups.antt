@@ -53,4 +53,5 @@ leaves_flags ops.Pop = true
 leaves_flags ops.Ret = true
 leaves_flags ops.Nop = true
 leaves_flags ops.Endbr64 = true
+leaves_flags (ops.Vector op) = true
 leaves_flags _ = false

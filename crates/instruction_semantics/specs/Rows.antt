@@ -31,7 +31,7 @@ row_expr (ops.Movsx m) w k = Extended m w (Leaf 1)
 row_expr ops.Cltq w k = Extended 32 64 (Leaf 1)
 row_expr (ops.Cmov c) w k = Choice (Leaf 2) (Leaf 1) (Leaf 0)
 row_expr (ops.Set c) w k = Joined 1 (Number 7 0) (Leaf 2)
--- the others compute nothing
+-- the others compute no word
 row_expr (ops.Jump c) w k = Leaf 0
 row_expr ops.Jmp w k = Leaf 0
 row_expr ops.Push w k = Leaf 0
@@ -39,6 +39,7 @@ row_expr ops.Pop w k = Leaf 0
 row_expr ops.Ret w k = Leaf 0
 row_expr ops.Nop w k = Leaf 0
 row_expr ops.Endbr64 w k = Leaf 0
+row_expr (ops.Vector op) w k = Leaf 0
 
 -- the leaves of a row: the destination, and the source at every other number
 abbrev pub scalar_leaves : ℕ → ℕ → ℕ → ℕ
@@ -63,7 +64,7 @@ Shifts w a k = (w < 65) × (a < 2 ^ w) × (0 < k) × (k < w)
 
 -- The operands for which the row computes something: in a widening row the source has the source's width, in `lea` it
 -- is any address, in a shift the count is in range. `cmovCC` and `setCC` read a condition besides and are not among
--- these; jumps, `ret`, `nop`, `endbr64`, `pushq` and `popq` compute nothing.
+-- these; jumps, `ret`, `nop`, `endbr64`, `pushq` and `popq` compute nothing, and operations on vectors no word.
 abbrev pub Computes : Op → ℕ → ℕ → ℕ → Type 0
 Computes ops.Mov w a b = AreWords w a b
 Computes ops.Movabs w a b = AreWords w a b
@@ -95,3 +96,4 @@ Computes ops.Pop w a b = ⊥
 Computes ops.Ret w a b = ⊥
 Computes ops.Nop w a b = ⊥
 Computes ops.Endbr64 w a b = ⊥
+Computes (ops.Vector op) w a b = ⊥

@@ -47,5 +47,6 @@ pub fn scalar(op: Op, width: u32, a: u64, b: u64) -> u64
         Op::Ret => a,
         Op::Nop => a,
         Op::Endbr64 => a,
+        Op::Vector(_) => a,
     }
 }

@@ -81,6 +81,7 @@ row_computes pool ops.Pop i s a b f w row low high e = cc
 row_computes pool ops.Ret i s a b f w row low high e = cc
 row_computes pool ops.Nop i s a b f w row low high e = cc
 row_computes pool ops.Endbr64 i s a b f w row low high e = cc
+row_computes pool (ops.Vector v) i s a b f w row low high e = cc
 row_computes pool _ i s a b f w row low high e = (positive i.w w, narrow i.w w, low, high)
 
 -- a row by its result and its flags

@@ -20,6 +20,8 @@ family_of ops.Pop = Popping
 family_of ops.Ret = Return
 family_of ops.Nop = Idle
 family_of ops.Endbr64 = Idle
+-- no form of the table has operations on vectors yet
+family_of (ops.Vector op) = Idle
 family_of _ = Computing
 
 -- the condition that an operation reads

@@ -47,6 +47,8 @@ pub fn op_family(op: Op) -> Family
         Op::Ret => Family::Return,
         Op::Nop => Family::Idle,
         Op::Endbr64 => Family::Idle,
+        // No form of the table has them yet.
+        Op::Vector(_) => Family::Idle,
         _ => Family::Computing,
     }
 }

@@ -1,0 +1,4 @@
+pub mod Inside
+pub mod LaneSums
+pub mod Turns
+pub mod WordSteps

@@ -1,0 +1,20 @@
+//! What the operations on vector registers compute, in words of machine code.
+//!
+//! `vector` is the definition `vector_of` of `vector_semantics`, run: for every operation, width, immediate and
+//! bytes. It goes once over the lanes of the result, and takes no memory.
+//!
+//! For example `vector(VectorOp::Lanewise(LaneOp::Padd(LaneWidth::Byte)), 128, 0, &a, &b)` has at each of its 16
+//! low bytes the sum of the bytes of `a` and `b` there, and zeros above.
+#![tactic(auto)]
+
+mod lanes;
+mod lanewise;
+mod moves;
+mod rows;
+mod saturation;
+mod sums;
+
+mod widths;
+
+pub use lanes::vector;
+pub use rows::is_vector_row;

@@ -1,0 +1,6 @@
+pub mod LaneRows
+pub mod MoveRows
+pub mod Sources
+pub mod VectorRows
+pub mod Vectors
+pub mod Widths

@@ -1,0 +1,10 @@
+-- The widths of lanes, in bits.
+use Rattle.std.specs.Prelude.{ℕ}
+use Rattle.align_base.specs.declared.vector_op.LaneWidth.{LaneWidth}
+use Rattle.align_base.specs.declared.vector_op.LaneWidth.TheVariants.{Byte, Word, Doubleword, Quadword}
+
+abbrev pub bits : LaneWidth → ℕ
+bits Byte = 8
+bits Word = 16
+bits Doubleword = 32
+bits Quadword = 64
