@@ -1,0 +1,3 @@
+pub mod InsnText
+pub mod Mnemonics
+pub mod ShowText
