@@ -9,10 +9,12 @@
 #![tactic(auto)]
 
 mod insns;
+mod laws;
 mod mnemonics;
 mod operands;
 mod show;
 
 pub use insns::insn_text;
+pub use laws::operands_are_read_back;
 pub use mnemonics::mnemonics_name_shapes;
 pub use show::show_text;
