@@ -1,0 +1,7 @@
+use Rattle.flow_graph.proofs.graphs.Graph.is_head.Goals as goal
+
+pub returns : goal.returns
+returns c = (
+  λ h. (c.heads.ensures.exactly c.args.place).0 (c.is_listed.ensures.0 h),
+  λ h. c.is_listed.ensures.1 ((c.heads.ensures.exactly c.args.place).1 h),
+)

@@ -1,0 +1,4 @@
+pub mod Decimals
+pub mod Naming
+pub mod ReadBack
+pub mod Showing

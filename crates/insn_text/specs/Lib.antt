@@ -1,0 +1,4 @@
+pub mod InsnText
+pub mod Mnemonics
+pub mod ReadBack
+pub mod ShowText

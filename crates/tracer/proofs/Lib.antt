@@ -1,0 +1,4 @@
+pub mod Flowing
+pub mod Matched
+pub mod Recorded
+pub mod Traced
