@@ -333,6 +333,7 @@ names ops.Pop w p form found h = by_one (Names ops.Pop) 64 w h names-Pop
 names ops.Ret w p form found h = by_one (Names ops.Ret) 64 w h names-Ret
 names ops.Nop w p form found h = by_one (Names ops.Nop) 64 w h names-Nop
 names ops.Endbr64 w p form found h = by_one (Names ops.Endbr64) 64 w h names-Endbr64
+names (ops.Vector op) w p form found h = cc
 
 -- an instruction of the table has a form
 found-form : (i : Insn) → IsTableInsn i → (form : Form) × (form_of i ≡ Some form)

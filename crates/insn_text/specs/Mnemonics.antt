@@ -4,7 +4,7 @@ use Rattle.std.specs.Prelude.{ℕ, ◌==◌, List, [], ◌++◌, codes, if◌the
 use Rattle.align_base.specs.declared.op.Cond.{Cond}
 use Rattle.align_base.specs.declared.op.Cond.TheVariants.{E, Ne, B, Ae, Be, A, L, Ge, Le, G, S, Ns, O, No, P, Np}
 use Rattle.align_base.specs.declared.op.Op.{Op}
-use Rattle.align_base.specs.declared.op.Op.TheVariants.{Mov, Movabs, Add, Sub, Cmp, Test, And, Or, Xor, Inc, Dec, Neg, Not, Shl, Shr, Sar, Imul, Lea, Movzx, Movsx, Cltq, Cmov, Set, Jump, Jmp, Push, Pop, Ret, Nop, Endbr64}
+use Rattle.align_base.specs.declared.op.Op.TheVariants.{Mov, Movabs, Add, Sub, Cmp, Test, And, Or, Xor, Inc, Dec, Neg, Not, Shl, Shr, Sar, Imul, Lea, Movzx, Movsx, Cltq, Cmov, Set, Jump, Jmp, Push, Pop, Ret, Nop, Endbr64, Vector}
 
 -- the letter of a width
 abbrev pub suffix : ℕ → List ℕ
@@ -66,6 +66,7 @@ stem Pop = codes "pop"
 stem Ret = codes "ret"
 stem Nop = codes "nop"
 stem Endbr64 = codes "endbr64"
+stem (Vector row) = []  -- no mnemonic of the table names one yet
 
 -- what stands between stem and suffix: the name of a condition, or the letter of the source's width
 abbrev pub middle : Op → List ℕ

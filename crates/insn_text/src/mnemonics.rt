@@ -59,6 +59,8 @@ fn stem(op: Op) -> &'static str
         Op::Ret => "ret",
         Op::Nop => "nop",
         Op::Endbr64 => "endbr64",
+        // no mnemonic of the table names one yet
+        Op::Vector(_) => "",
     }
 }
 
