@@ -11,7 +11,9 @@ use Rattle.instruction_semantics.specs.Rows.{AreWords, Computes, computed, row_e
 use Rattle.instruction_semantics.specs.Words.{bit}
 use Rattle.row_vectors.specs.Table.{case_of}
 use Rattle.row_vectors.specs.declared.case.Case.{Case}
-use Rattle.row_vectors.specs.declared.case.Case.TheVariants.{Row, Condition}
+use Rattle.row_vectors.specs.declared.case.Case.TheVariants.{Row, Condition, Vector}
+use Rattle.vector_semantics.specs.VectorRows.{IsVectorRow}
+use Rattle.vector_semantics.specs.Vectors.{vector_of}
 
 -- how the table writes a flag: 2 where it is unset
 abbrev pub flag_code : Option Bool → ℕ
@@ -43,11 +45,14 @@ row_value (ops.Set c) w a b before =
     option_map (λ holds. value (conditional_leaves a b holds) (row_expr (ops.Set c) w b)) (cond_of c before)
 row_value op w a b before = Some (computed op w a b)
 
--- the row has this value of its operands, and leaves these flags; the condition has this value
+-- the row has this value of its operands, and leaves these flags; the condition has this value; the operation has this
+-- result
 abbrev pub Agrees : Case → Type 0
 Agrees (Row number op w a b before result after) =
     IsInRange op w a b × (row_value op w a b before ≡ Some result) × (flag_codes (flags_after op w a b before) ≡ after)
 Agrees (Condition cond flags holds) = flag_code (cond_of cond flags) ≡ holds
+Agrees (Vector number op w k first second result) =
+    IsVectorRow op w × (vector_of op w k first.bytes second.bytes ≡ result.bytes)
 
 -- a line that can be read, and whose case agrees
 abbrev pub LineAgrees : List ℕ → Type 0

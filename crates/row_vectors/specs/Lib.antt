@@ -1,3 +1,4 @@
 pub mod Agreement
 pub mod Numbers
 pub mod Table
+pub mod VectorNumbers

@@ -4,6 +4,9 @@
 --   2 CONDITION WIDTH DESTINATION SOURCE BEFORE.. VALUE AFTER..   the `cmovCC` of a condition, by its number
 --   3 CONDITION WIDTH DESTINATION SOURCE BEFORE.. VALUE AFTER..   the `setCC` of a condition
 --   1 CONDITION FLAGS.. HOLDS                                     whether a condition holds: 0, 1, or 2 for no answer
+--   4 ROW WIDTH IMMEDIATE FIRST.. SECOND.. RESULT..               a vector row by lane, by its number
+--   5 ROW WIDTH IMMEDIATE FIRST.. SECOND.. RESULT..               another vector row
+-- A vector is written as four words of 64 bits, the lowest first.
 use Rattle.std.specs.Prelude.{ℕ, ◌+◌, ◌==◌, Bool, List, [], ◌∷◌, Option, Some, None, ◌&&◌, length, nat_lt, slice_get, slice_index, if◌then◌else◌}
 use Rattle.std.specs.Option.{option_and_then, option_map}
 use Rattle.align_base.specs.declared.op.Cond.{Cond}
@@ -11,9 +14,13 @@ use Rattle.align_base.specs.declared.op.Cond.TheVariants as conds
 use Rattle.align_base.specs.declared.op.Flags.{Flags}
 use Rattle.align_base.specs.declared.op.Op.{Op}
 use Rattle.align_base.specs.declared.op.Op.TheVariants as ops
+use Rattle.align_base.specs.declared.vector_op.VectorOp.{VectorOp}
+use Rattle.lane_views.specs.declared.vector.Bytes32.{Bytes32}
 use Rattle.row_vectors.specs.Numbers.{numbers_of}
 use Rattle.row_vectors.specs.declared.case.Case.{Case}
-use Rattle.row_vectors.specs.declared.case.Case.TheVariants.{Row, Condition}
+use Rattle.row_vectors.specs.declared.case.Case.TheVariants.{Row, Condition, Vector}
+use Rattle.row_vectors.specs.VectorNumbers.{lane_rows, other_rows}
+use Rattle.vector_semantics.specs.Vectors.{lanes_in_turn}
 
 -- the general operations, each at its number
 abbrev pub operations : List Op
@@ -78,9 +85,32 @@ condition_case ns =
     then option_map (λ cond. Condition cond (flags_from ns 2) (slice_index ns 7)) (slice_get conditions (slice_index ns 1))
     else None
 
+-- the vector operation of a row: its kind and its number
+abbrev pub vector_operation : ℕ → ℕ → Option VectorOp
+vector_operation kind number =
+    if kind == 4 then slice_get lane_rows number else (if kind == 5 then slice_get other_rows number else None)
+
+-- the vector that is written from place i on
+abbrev pub vector_from : List ℕ → ℕ → Bytes32
+vector_from ns i = record { bytes = lanes_in_turn 64 (λ k. slice_index ns (i + k)) 4 }
+
+abbrev pub vector_row : List ℕ → VectorOp → Case
+vector_row ns op =
+    Vector (slice_index ns 1) op (slice_index ns 2) (slice_index ns 3) (vector_from ns 4) (vector_from ns 8) (vector_from ns 12)
+
+abbrev pub vector_case : List ℕ → Option Case
+vector_case ns =
+    if nat_lt (slice_index ns 2) 257 && nat_lt (slice_index ns 3) 256
+    then option_map (vector_row ns) (vector_operation (slice_index ns 0) (slice_index ns 1))
+    else None
+
+-- 16 numbers are a case of a vector operation where they begin with 4 or more
+abbrev pub long_case : List ℕ → Option Case
+long_case ns = if nat_lt (slice_index ns 0) 4 then row_case ns else vector_case ns
+
 -- the case that so many numbers are
 abbrev pub case_of_numbers : List ℕ → Option Case
-case_of_numbers ns = if length ns == 16 then row_case ns else (if length ns == 8 then condition_case ns else None)
+case_of_numbers ns = if length ns == 16 then long_case ns else (if length ns == 8 then condition_case ns else None)
 
 -- the case of a line
 abbrev pub case_of : List ℕ → Option Case

@@ -1,10 +1,14 @@
-//! One case of the table, and whether `lane_ops` agrees with it.
+//! One case of the table, and whether `lane_ops` and `vector_ops` agree with it.
 ghost use Rattle.std.specs.Prelude.{◌≡◌, ◌<◌, ◌^◌, ◌↔◌, IsTrue};
 ghost use Rattle.instruction_semantics.specs.FlagRules.{flags_after};
+ghost use Rattle.vector_semantics.specs.VectorRows.{IsVectorRow};
+ghost use Rattle.vector_semantics.specs.Vectors.{vector_of};
 ghost use Rattle.row_vectors.specs.Agreement.{Agrees, IsInRange, flag_code, flag_codes, row_value};
 
-use align_base::{Cond, Flags, Op};
+use align_base::{Cond, Flags, Op, VectorOp};
 use lane_ops::{flags, holds, scalar};
+use lane_views::Bytes32;
+use vector_ops::{is_vector_row, vector};
 
 /// A line of the table.
 #[derive(Drop)]
@@ -26,6 +30,17 @@ pub enum Case {
         cond: Cond,
         flags: Flags,
         holds: u64,
+    },
+    /// A vector operation and its number, the width of the vectors, the immediate, both arguments, and
+    /// the result.
+    Vector {
+        number: u64,
+        op: VectorOp,
+        w: u32,
+        imm: u8,
+        first: Bytes32,
+        second: Bytes32,
+        result: Bytes32,
     },
 }
 
@@ -74,7 +89,14 @@ fn is_in_range(op: Op, w: u32, a: u64, b: u64) -> bool
         Op::Movzx(m) | Op::Movsx(m) => 0 < m && m < w && is_word(m, b),
         Op::Cltq => w == 64 && is_word(32, b),
         Op::Set(_) => w == 8,
-        Op::Jump(_) | Op::Jmp | Op::Push | Op::Pop | Op::Ret | Op::Nop | Op::Endbr64 => false,
+        Op::Jump(_)
+        | Op::Jmp
+        | Op::Push
+        | Op::Pop
+        | Op::Ret
+        | Op::Nop
+        | Op::Endbr64
+        | Op::Vector(_) => false,
         _ => is_word(w, a) && is_word(w, b),
     }
 }
@@ -103,8 +125,23 @@ fn row_flags(op: Op, w: u32, a: u64, b: u64, before: Flags) -> Flags
     }
 }
 
+/// Whether a vector operation has this result.
+fn has_result(
+    op: VectorOp,
+    w: u32,
+    imm: u8,
+    first: &Bytes32,
+    second: &Bytes32,
+    wanted: &Bytes32,
+) -> bool
+    requires { IsVectorRow op w }
+    ensures { IsTrue result ↔ (vector_of op w imm first.now.bytes second.now.bytes ≡ wanted.now.bytes) }
+{
+    vector(op, w, imm, first, second).bytes == wanted.bytes
+}
+
 impl Case {
-    /// Whether `lane_ops` agrees with it, and so the definitions do.
+    /// Whether `lane_ops` and `vector_ops` agree with it, and so the definitions do.
     pub fn is_right(&self) -> bool
         ensures { IsTrue result ↔ Agrees self.now }
     {
@@ -128,6 +165,15 @@ impl Case {
                     && row_value(*op, *w, *a, *b, before) == Some(*value)
                     && flag_codes(row_flags(*op, *w, *a, *b, *before)) == *after
             }
+            Case::Vector {
+                op,
+                w,
+                imm,
+                first,
+                second,
+                result,
+                ..
+            } => is_vector_row(*op, *w) && has_result(*op, *w, *imm, first, second, result),
         }
     }
 }

@@ -1,9 +1,10 @@
 //! Reads a line of the table: the numbers of operations and conditions, flags, and cases.
 ghost use Rattle.std.specs.Prelude.{◌≡◌, ◌+◌, ◌≤◌, IfOk, length, slice_get};
-ghost use Rattle.row_vectors.specs.Table.{case_of, case_of_numbers, condition_case, conditions, flag_of, flags_from, has_flags, operation_of, operations, row_case, row_of};
+ghost use Rattle.row_vectors.specs.Table.{case_of, case_of_numbers, condition_case, conditions, flag_of, flags_from, has_flags, long_case, operation_of, operations, row_case, row_of};
 
 use crate::case::Case;
 use crate::numbers::numbers;
+use crate::vector_rows::vector_case;
 use align_base::{Cond, Flags, Op};
 use std::alloc::{AllocError, Global};
 
@@ -167,12 +168,20 @@ fn condition_case(n: &[u64]) -> Option<Case>
     }
 }
 
+/// The case of 16 numbers: of a vector operation where they begin with 4 or more.
+fn long_case(n: &[u64]) -> Option<Case>
+    requires { length n.now ≡ 16 }
+    ensures { result ≡ long_case n.now }
+{
+    if n[0] < 4 { row_case(n) } else { vector_case(n) }
+}
+
 /// The case of numbers.
 fn case_of_numbers(n: &[u64]) -> Option<Case>
     ensures { result ≡ case_of_numbers n.now }
 {
     match n.len() {
-        16 => row_case(n),
+        16 => long_case(n),
         8 => condition_case(n),
         _ => None,
     }

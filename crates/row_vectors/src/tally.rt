@@ -5,10 +5,10 @@ ghost use Rattle.row_vectors.specs.Agreement.{Agrees, LineAgrees};
 
 use crate::case::Case;
 use crate::numbers::lines;
-use align_base::Op;
+use align_base::{Op, VectorOp};
 use std::alloc::{AllocError, Global};
 
-/// How many cases were read of each operation, of `cmovCC`, `setCC` and conditions, and how many lines were
+/// How many cases were read of each operation, of `cmovCC`, `setCC`, conditions and vector rows, and how many lines were
 /// wrong. Each count stays at 2^64 - 1 once it is there.
 #[derive(Drop)]
 pub struct Counts {
@@ -16,7 +16,16 @@ pub struct Counts {
     pub moves: u64,
     pub settings: u64,
     pub conditions: u64,
+    pub of_lane_rows: [u64; 56],
+    pub of_other_rows: [u64; 42],
     pub wrong: u64,
+}
+
+/// One more at a place, if there is one.
+fn raise(counts: &mut [u64], place: u64) {
+    if let Some(n) = counts.get_mut(place as usize) {
+        *n = n.saturating_add(1);
+    }
 }
 
 /// Counts the case by its operation.
@@ -27,13 +36,13 @@ fn count_operation(counts: &mut Counts, case: &Case)
         Case::Row { op, number, .. } => match op {
             Op::Cmov(_) => counts.moves = counts.moves.saturating_add(1),
             Op::Set(_) => counts.settings = counts.settings.saturating_add(1),
-            _ => {
-                if let Some(n) = counts.of_operations.get_mut(*number as usize) {
-                    *n = n.saturating_add(1);
-                }
-            }
+            _ => raise(&mut counts.of_operations, *number),
         },
         Case::Condition { .. } => counts.conditions = counts.conditions.saturating_add(1),
+        Case::Vector { op, number, .. } => match op {
+            VectorOp::Lanewise(_) => raise(&mut counts.of_lane_rows, *number),
+            _ => raise(&mut counts.of_other_rows, *number),
+        },
     }
 }
 
@@ -68,6 +77,8 @@ pub fn tally(alloc: Global, text: &str) -> Result<Counts, AllocError>
         moves: 0,
         settings: 0,
         conditions: 0,
+        of_lane_rows: [0; 56],
+        of_other_rows: [0; 42],
         wrong: 0,
     };
     let lines = lines(alloc, text)?;
