@@ -1,5 +1,5 @@
 -- The start state of a test is kept in the spans of its ranges.
-use Rattle.std.proofs.Common.{◌≡◌, ℕ, ◌+◌, ◌-◌, ◌%◌, ◌^◌, ◌<◌, ◌≤◌, ◌==◌, Bool, true, false, ◌||◌, nat_lt, List, [], ◌∷◌, length, slice_index, inl, inr, refl, sym, ◌∙◌, ap, subst, arith}
+use Rattle.std.proofs.Common.{◌≡◌, ℕ, ◌+◌, ◌%◌, ◌^◌, ◌<◌, ◌≤◌, ◌==◌, Bool, true, false, ◌||◌, nat_lt, List, [], ◌∷◌, slice_index, inl, inr, refl, sym, ◌∙◌, subst, arith}
 use Rattle.std.specs.List.{AllByRecursion, Any, list_any}
 use Rattle.std.proofs.lemmas.Bool.{cases_Bool, eqb-true, false≢true}
 use Rattle.std.proofs.lemmas.Bool.Decides.{nat_tests}
@@ -48,7 +48,7 @@ spanned_regions pointer stack spans [] all covers = tt
 spanned_regions pointer stack spans (r ∷ rs) all covers = (
   λ at low high. (let small : at < 2 ^ 64 = omega (arith, all.0.fits) in
       covers at small (or_first (nat_lt (offset_from r.base at) r.len) (in_regions rs at) (below_test (offset_from r.base at) r.len (offset_in r.base r.len at low high small)))),
-  spanned_regions pointer stack spans rs all.1 (λ at small h. covers at small (or_second (nat_lt (offset_from r.base at) r.len) (in_regions rs at) h))
+  spanned_regions pointer stack spans rs all.1 (λ at small h. covers at small (or_second (nat_lt (offset_from r.base at) r.len) (in_regions rs at) h)),
 )
 
 -- spans that have the addresses of the stack range and of regions that are placed

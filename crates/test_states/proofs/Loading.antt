@@ -1,23 +1,23 @@
 -- What loading a test answers.
-use Rattle.std.proofs.Common.{◌≡◌, ℕ, ◌+◌, ◌-◌, ◌<◌, ◌≤◌, ◌==◌, Bool, true, false, not, ◌&&◌, nat_le, nat_lt, List, [], ◌∷◌, Option, None, Some, Result, Ok, Err, IfOk, length, inl, inr, refl, sym, ◌∙◌, ap, subst, arith}
+use Rattle.std.proofs.Common.{◌≡◌, ℕ, ◌+◌, ◌-◌, ◌<◌, ◌≤◌, ◌==◌, Bool, true, false, not, ◌&&◌, nat_le, nat_lt, List, None, Some, Result, Ok, Err, IfOk, inl, inr, refl, sym, ap, subst, arith}
 use Rattle.std.specs.Prelude.{sum_by}
 use Rattle.std.specs.List.{Any, list_any}
-use Rattle.std.proofs.lemmas.Bool.{cases_Bool, eq-eqb, false≢true}
+use Rattle.std.proofs.lemmas.Bool.{eq-eqb, false≢true}
 use Rattle.std.proofs.lemmas.Bool.Decides.{nat_tests}
 use Rattle.std.proofs.lemmas.List.Folds.{Any-from_list_any, list_any-from_Any}
 use Rattle.machine.specs.declared.state.Region.{Region}
 use Rattle.machine.specs.Kept.{Kept, pure_of}
-use Rattle.machine.specs.Machine.{IsStart, Machine}
+use Rattle.machine.specs.Machine.{IsStart}
 use Rattle.admission.specs.declared.admission.Admission.{Admission}
 use Rattle.admission.specs.Admitted.{HasByte, IsAdmittedStart, regions_of}
 use Rattle.tests_text.specs.declared.test.Test.{Test}
 use Rattle.test_states.specs.declared.refusal.LoadRefusal.{LoadRefusal}
 use Rattle.test_states.specs.declared.refusal.LoadRefusal.TheVariants.{ByteOutside, Memory, NotAdmitted, RegionsLarge}
-use Rattle.test_states.specs.Choosing.{is_outside, least_outside, region_has}
+use Rattle.test_states.specs.Choosing.{least_outside, region_has}
 use Rattle.test_states.specs.Loads.{GivesRefusal, GivesState, IsRefused, Loads}
-use Rattle.test_states.specs.Starts.{IsFirstOutside, IsInRegion, IsLoadable, IsNamed, IsOutside, start_of, total_length}
+use Rattle.test_states.specs.Starts.{IsFirstOutside, IsInRegion, IsLoadable, IsNamed, start_of, total_length}
 use Rattle.test_states.proofs.Keeping.{named_from_test}
-use Rattle.test_states.proofs.Outside.{IsLeast, is_named, least_is, none_outside}
+use Rattle.test_states.proofs.Outside.{is_named, least_is, none_outside}
 
 test_from_named : (named : List (ℕ × ℕ)) (at : ℕ) → Any (λ (pair : ℕ × ℕ). pair.0 ≡ at) named → is_named named at ≡ true
 test_from_named named at a = list_any-from_Any (λ (pair : ℕ × ℕ). pair.0 == at) named (a.0, a.1, a.2, a.3, eq-eqb a.1.0 at a.4)

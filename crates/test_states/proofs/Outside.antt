@@ -1,5 +1,5 @@
 -- The least of the named addresses that lie in no region.
-use Rattle.std.proofs.Common.{◌≡◌, ◌⊎◌, inl, inr, ℕ, ◌<◌, ◌≤◌, ◌==◌, Bool, true, false, not, ◌||◌, List, [], ◌∷◌, Option, None, Some, min, refl, sym, ◌∙◌, ap, subst, if◌then◌else◌, arith}
+use Rattle.std.proofs.Common.{◌≡◌, ◌⊎◌, inl, inr, ℕ, ◌≤◌, ◌==◌, Bool, true, false, ◌||◌, List, [], ◌∷◌, Option, None, Some, min, refl, sym, ◌∙◌, ap, subst, arith}
 use Rattle.std.specs.List.{list_any}
 use Rattle.std.proofs.lemmas.Bool.{cases_Bool, cases_lt, eqb-true, eq-eqb, false≢true, or_cases}
 use Rattle.machine.specs.declared.state.Region.{Region}
@@ -18,11 +18,13 @@ module _ (regions : List Region) where
     | inl out ↦ (let h : least_outside regions (Some (lesser found p.0)) ps ≡ None = rw out at e in
         let no : Some (lesser found p.0) ≡ None = (none_outside (Some (lesser found p.0)) ps h).0 in absurd (cc))
     | inr inside ↦ (let h : least_outside regions found ps ≡ None = rw inside at e in
-        let rest = none_outside found ps h in
-        (rest.0, λ at named. elim (or_cases (p.0 == at) (is_named ps at) named) [
-          | inl here ↦ subst (λ (x : ℕ). is_outside regions x ≡ false) (eqb-true p.0 at here) inside
-          | inr later ↦ rest.1 at later
-        ]))
+        let rest = none_outside found ps h in (
+          rest.0,
+          λ at named. elim (or_cases (p.0 == at) (is_named ps at) named) [
+            | inl here ↦ subst (λ (x : ℕ). is_outside regions x ≡ false) (eqb-true p.0 at here) inside
+            | inr later ↦ rest.1 at later
+          ],
+        ))
   ]
 
   -- the least one, where one was found before

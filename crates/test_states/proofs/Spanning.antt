@@ -37,9 +37,11 @@ spans_ordered named from [] [] are apart = tt
 spans_ordered named from [] (s ∷ ss) are apart = absurd are
 spans_ordered named from (r ∷ rs) [] are apart = absurd are
 spans_ordered named from (r ∷ rs) (s ∷ ss) are apart =
-    let end : s.at + length s.bytes.items ≡ r.last + 1 = omega (arith, are.0.at, are.0.len, apart.1) in
-    (rw are.0.at apart.0, rw end (omega (arith, apart_below (r.last + 2) rs apart.2)),
-    rw end (order_sooner (r.last + 2) (r.last + 1) ss (omega arith) (spans_ordered named (r.last + 2) rs ss are.1 apart.2)))
+    let end : s.at + length s.bytes.items ≡ r.last + 1 = omega (arith, are.0.at, are.0.len, apart.1) in (
+      rw are.0.at apart.0,
+      rw end (omega (arith, apart_below (r.last + 2) rs apart.2)),
+      rw end (order_sooner (r.last + 2) (r.last + 1) ss (omega arith) (spans_ordered named (r.last + 2) rs ss are.1 apart.2)),
+    )
   where
     apart_below : (from : ℕ) (ranges : List Range) → AreApart from ranges (2 ^ 64 + 1) → from ≤ 2 ^ 64 + 1
     apart_below from [] apart = apart

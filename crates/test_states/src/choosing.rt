@@ -28,9 +28,7 @@ pub fn is_large(regions: &[Region], stack: u64) -> bool
 fn is_inside(regions: &[Region], at: u64) -> bool
     ensures { result ≡ list_any (choosing.region_has at) regions.now }
 {
-    regions
-        .iter()
-        .any(|region| region.base <= at && at - region.base < region.len)
+    regions.iter().any(|region| region.base <= at && at - region.base < region.len)
 }
 
 /// The least of the addresses that are named and lie in no region.

@@ -68,7 +68,12 @@ fn joined(alloc: Global, ranges: &[Range]) -> Result<Vec<Range>, Memory>
 
 /// The ranges, in order and apart, of the addresses of regions and of the first `len` addresses from
 /// `base` on, which wrap at 2^64.
-pub fn ranges_of(alloc: Global, regions: &[Region], base: u64, len: u64) -> Result<Vec<Range>, Memory>
+pub fn ranges_of(
+    alloc: Global,
+    regions: &[Region],
+    base: u64,
+    len: u64,
+) -> Result<Vec<Range>, Memory>
     ensures apart { IfOk result (λ ranges. AreApart 0 ranges.items (2 ^ 64 + 1)) }
     ensures covered { IfOk result (λ ranges. (x : ℕ) → x < 2 ^ 64 → is_covered ranges.items x
         ≡ (nat_lt (offset_from base x) len || list_any (λ (r : Region). nat_lt (offset_from r.base x) r.len) regions.now)) }

@@ -24,11 +24,7 @@ use tests_text::Test;
 const STACK_POINTER: usize = 4;
 
 // The regions of an admission at entry registers.
-fn regions_at(
-    alloc: Global,
-    admission: &Admission,
-    regs: &[u64; 16],
-) -> Result<Vec<Region>, Memory>
+fn regions_at(alloc: Global, admission: &Admission, regs: &[u64; 16]) -> Result<Vec<Region>, Memory>
     requires { IsWellFormed admission.now }
     ensures { IfOk result (λ regions. regions.items ≡ regions_of regs.now admission.now) }
 {

@@ -1,5 +1,4 @@
-use Rattle.std.proofs.Common.{◌≡◌, ◌<◌, ◌^◌, ◌≤◌, Some, length, slice_get, sym, ◌∙◌, arith, rules}
-use Rattle.test_states.specs.declared.range.Range.{Range}
+use Rattle.std.proofs.Common.{◌<◌, length, sym, arith, rules}
 use Rattle.test_states.proofs.Joining.{joining_covers, joining_goes_on, joining_grows, joining_is_apart, joining_starts}
 use Rattle.test_states.proofs.ranges.joined.Goals as goal
 use Rattle.test_states.proofs.ranges.joined.Goals.{then-gap-le1, else-gap-le1+in_ok-push}

@@ -1,12 +1,11 @@
-use Rattle.std.proofs.Common.{◌≡◌, ℕ, ◌<◌, ◌^◌, ◌||◌, List, nat_lt, length, take, sym, ◌∙◌, ap, arith, rules}
+use Rattle.std.proofs.Common.{◌||◌, List, nat_lt, ◌∙◌, ap, arith, rules}
 use Rattle.std.specs.List.{list_any}
-use Rattle.std.specs.List.Sorted.{IsPermutation}
 use Rattle.std.proofs.lemmas.List.{take_all}
 use Rattle.std.proofs.lemmas.List.Sorted.{All-permutation, IsNonDecreasingBy-from_sort_by_key}
 use Rattle.machine.specs.Machine.{offset_from}
 use Rattle.machine.specs.declared.state.Region.{Region}
 use Rattle.test_states.specs.declared.range.Range.{Range}
-use Rattle.test_states.specs.Ranges.{IsRange, is_covered}
+use Rattle.test_states.specs.Ranges.{IsRange}
 use Rattle.test_states.proofs.Joining.{joined_covers}
 use Rattle.test_states.proofs.ranges.ranges_of.Goals as goal
 

@@ -1,4 +1,4 @@
-use Rattle.std.proofs.Common.{◌≡◌, ℕ, ◌+◌, ◌-◌, ◌<◌, ◌≤◌, length, get_or, sym, ◌∙◌, arith}
+use Rattle.std.proofs.Common.{◌<◌, length, get_or, sym, ◌∙◌, arith}
 use Rattle.test_states.proofs.Naming.{names_inside, names_outside}
 use Rattle.test_states.proofs.Spanning.{has_from, not_of_range}
 use Rattle.test_states.proofs.spans.span_of.Goals as goal

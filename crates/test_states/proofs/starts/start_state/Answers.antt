@@ -1,4 +1,4 @@
-use Rattle.std.proofs.Common.{◌≡◌, ℕ, ◌<◌, ◌^◌, List, slice_index, sym, ◌∙◌, ap, subst, arith, rules}
+use Rattle.std.proofs.Common.{List, slice_index, sym, ◌∙◌, ap, subst, rules}
 use Rattle.std.specs.List.{AllByRecursion}
 use Rattle.machine.specs.declared.state.Region.{Region}
 use Rattle.machine.specs.Kept.{pure_of}
