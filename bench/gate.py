@@ -1,7 +1,7 @@
 #!/usr/bin/env python3
 """The processor time of the whole gate from nothing, by crate and by kind: proofs, tests (each proved, too), wrong edits.
 
-Runs `rt ci --anew` in this checkout and looks, ten times a second, at the processes of the prover that it starts: a
+Runs `rt ci` in this checkout (with `--anew`, where the kit has it) and looks, ten times a second, at the processes of the prover that it starts: a
 check in a folder of an edit is an edit's, one of a crate's tests is a test's, each other one is a proof's. What is left
 of the whole (compilers, programs, tests that run, processes too short to be seen) is printed as the rest. Run it with no
 other work on the machine.
@@ -58,7 +58,9 @@ def kind_of(pid):
 
 def main():
     log = open(os.path.join(tempfile.gettempdir(), "align-gate.log"), "w+")
-    run = subprocess.Popen(["rt", "ci", "--anew"], stdout=log, stderr=subprocess.STDOUT)
+    shown = subprocess.run(["rt", "help"], capture_output=True, text=True)
+    anew = ["--anew"] if "--anew" in shown.stdout + shown.stderr else []
+    run = subprocess.Popen(["rt", "ci", *anew], stdout=log, stderr=subprocess.STDOUT)
     spent, kinds, start = {}, {}, time.monotonic()
     while run.poll() is None:
         for pid, ticks in children([run.pid]).items():

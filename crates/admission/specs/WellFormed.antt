@@ -30,6 +30,7 @@ pub record IsExpr (e : Expr) : Type 0 where
 abbrev pub IsModulus : ℕ → Type 0
 IsModulus m = (k : ℕ) × (0 < k) × (k ≤ 12) × (m ≡ 2 ^ k)
 
+-- what an admission may need of the entry registers
 abbrev pub IsNeed : Need → Type 0
 IsNeed (Compare a rel b) = IsExpr a × IsExpr b
 IsNeed (Modulo a m r) = IsExpr a × IsModulus m × (r < m)

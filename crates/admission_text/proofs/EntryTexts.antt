@@ -27,7 +27,7 @@ use Rattle.admission_text.proofs.Numbers.{number-known, number-only}
 use Rattle.admission_text.proofs.Registers.{outputs-known, outputs-only}
 use Rattle.admission_text.proofs.Terms.{expr-known, expr-only}
 use Rattle.admission_text.proofs.TextParts as cuts
-use Rattle.admission_text.proofs.TextParts.{bind-some}
+use Rattle.admission_text.proofs.TextParts.{bind_some}
 
 -- there is a line
 abbrev pub is_headed : List Line → Bool
@@ -257,14 +257,14 @@ region-known : (before : List Line) (d : Draft) (rest : List ℕ) (e : Entry) �
     → (r : RegionLine) × (entries.Region r ≡ e) × IsRegionEntry before (codes "region" ∷ parts 32 rest) r
 unfolding region_entry
 region-known before d rest e tells h =
-    let w = bind-some (four_words rest) (λ found. right_of found.3 >>= λ write. ((cond (is_region_name found.0 && is_none (region_number found.0 (names_of d))) (expr_of found.1) None)
+    let w = bind_some (four_words rest) (λ found. right_of found.3 >>= λ write. ((cond (is_region_name found.0 && is_none (region_number found.0 (names_of d))) (expr_of found.1) None)
     >>= λ base. (expr_of found.2 >>= λ len. Some (entries.Region (record { name = found.0; base = base; len = len; write = write }))))) e h in
     let name = w.0.0 in
-    let write = bind-some (right_of w.0.3) (λ write. (cond (is_region_name name && is_none (region_number name (names_of d))) (expr_of w.0.1) None)
+    let write = bind_some (right_of w.0.3) (λ write. (cond (is_region_name name && is_none (region_number name (names_of d))) (expr_of w.0.1) None)
     >>= λ base. (expr_of w.0.2 >>= λ len. Some (entries.Region (record { name = name; base = base; len = len; write = write })))) e w.2 in
-    let base = bind-some (cond (is_region_name name && is_none (region_number name (names_of d))) (expr_of w.0.1) None)
+    let base = bind_some (cond (is_region_name name && is_none (region_number name (names_of d))) (expr_of w.0.1) None)
     (λ base. expr_of w.0.2 >>= λ len. Some (entries.Region (record { name = name; base = base; len = len; write = write.0 }))) e write.2 in
-    let len = bind-some (expr_of w.0.2) (λ len. Some (entries.Region (record { name = name; base = base.0; len = len; write = write.0 }))) e base.2 in
+    let len = bind_some (expr_of w.0.2) (λ len. Some (entries.Region (record { name = name; base = base.0; len = len; write = write.0 }))) e base.2 in
     let tests = chosen_then (is_region_name name && is_none (region_number name (names_of d))) (expr_of w.0.1) base.0 base.1 in
     let both = and_parts (is_region_name name) (is_none (region_number name (names_of d))) tests.0 in
     let words = cuts.four-known rest w.0 w.1 in
@@ -289,9 +289,9 @@ region-known before d rest e tells h =
 compare-known : (left word right : List ℕ) (n : Need) → compare_need left word right ≡ Some n → IsRequireEntry (codes "require" ∷ left ∷ word ∷ right ∷ []) n
 unfolding compare_need
 compare-known left word right n h =
-    let rel = bind-some (relation_of word) (λ rel. expr_of left >>= λ a. (expr_of right >>= λ b. Some (Compare a rel b))) n h in
-    let a = bind-some (expr_of left) (λ a. expr_of right >>= λ b. Some (Compare a rel.0 b)) n rel.2 in
-    let b = bind-some (expr_of right) (λ b. Some (Compare a.0 rel.0 b)) n a.2 in
+    let rel = bind_some (relation_of word) (λ rel. expr_of left >>= λ a. (expr_of right >>= λ b. Some (Compare a rel b))) n h in
+    let a = bind_some (expr_of left) (λ a. expr_of right >>= λ b. Some (Compare a rel.0 b)) n rel.2 in
+    let b = bind_some (expr_of right) (λ b. Some (Compare a.0 rel.0 b)) n a.2 in
     let means : Compare a.0 rel.0 b.0 ≡ n = same_Some (Compare a.0 rel.0 b.0) n b.2 in
     let word_is = relation-known word rel.0 rel.1 in
     subst (IsRequireEntry (codes "require" ∷ left ∷ word ∷ right ∷ [])) means
@@ -302,10 +302,10 @@ modulo-known : (left word modulus equals rest : List ℕ) (n : Need) → modulo_
 unfolding modulo_need
 modulo-known left word modulus equals rest n h =
     let both : Bool = bytes_eq word (codes "mod") && bytes_eq equals (codes "=") in
-    let m = bind-some (cond both (number_of modulus) None)
+    let m = bind_some (cond both (number_of modulus) None)
     (λ m. number_of rest >>= λ r. ((cond (is_modulus m && ltb r m) (expr_of left) None) >>= λ a. Some (Modulo a m r))) n h in
-    let r = bind-some (number_of rest) (λ r. (cond (is_modulus m.0 && ltb r m.0) (expr_of left) None) >>= λ a. Some (Modulo a m.0 r)) n m.2 in
-    let a = bind-some (cond (is_modulus m.0 && ltb r.0 m.0) (expr_of left) None) (λ a. Some (Modulo a m.0 r.0)) n r.2 in
+    let r = bind_some (number_of rest) (λ r. (cond (is_modulus m.0 && ltb r m.0) (expr_of left) None) >>= λ a. Some (Modulo a m.0 r)) n m.2 in
+    let a = bind_some (cond (is_modulus m.0 && ltb r.0 m.0) (expr_of left) None) (λ a. Some (Modulo a m.0 r.0)) n r.2 in
     let means : Modulo a.0 m.0 r.0 ≡ n = same_Some (Modulo a.0 m.0 r.0) n a.2 in
     let spelled = chosen_then both (number_of modulus) m.0 m.1 in
     let parts_are = and_parts (bytes_eq word (codes "mod")) (bytes_eq equals (codes "=")) spelled.0 in
@@ -327,7 +327,7 @@ modulo-known left word modulus equals rest n h =
 need-by-known : (rest : List ℕ) (n : Need) (r : Option (List ℕ × List ℕ × List ℕ × List ℕ × List ℕ)) → five_words rest ≡ r → need_by r rest ≡ Some n
     → IsRequireEntry (codes "require" ∷ parts 32 rest) n
 need-by-known rest n None is h =
-    let w = bind-some (three_words rest) (λ found. compare_need found.0 found.1 found.2) n h in
+    let w = bind_some (three_words rest) (λ found. compare_need found.0 found.1 found.2) n h in
     let words = cuts.three-known rest w.0 w.1 in
     subst (λ (ws : List (List ℕ)). IsRequireEntry (codes "require" ∷ ws) n) (sym words) (compare-known w.0.0 w.0.1 w.0.2 n w.2)
 need-by-known rest n (Some found) is h =
@@ -337,16 +337,16 @@ need-by-known rest n (Some found) is h =
 require-known : (rest : List ℕ) (e : Entry) → require_entry rest ≡ Some e → (n : Need) × (entries.Require n ≡ e) × IsRequireEntry (codes "require" ∷ parts 32 rest) n
 unfolding require_entry
 require-known rest e h =
-    let n = bind-some (need_by (five_words rest) rest) (λ n. Some (entries.Require n)) e h in
+    let n = bind_some (need_by (five_words rest) rest) (λ n. Some (entries.Require n)) e h in
     (n.0, same_Some (entries.Require n.0) e n.2, need-by-known rest n.0 (five_words rest) refl n.1)
 
 apart-known : (before : List Line) (d : Draft) (rest : List ℕ) (e : Entry) → Tells before d → apart_entry d rest ≡ Some e
     → (i j : ℕ) × (entries.Apart i j ≡ e) × IsApartEntry before (codes "apart" ∷ parts 32 rest) i j
 unfolding apart_entry
 apart-known before d rest e tells h =
-    let w = bind-some (two_words rest) (λ found. region_number found.0 (names_of d) >>= λ i. (region_number found.1 (names_of d) >>= λ j. cond (eqb i j) None (Some (entries.Apart i j)))) e h in
-    let i = bind-some (region_number w.0.0 (names_of d)) (λ i. region_number w.0.1 (names_of d) >>= λ j. cond (eqb i j) None (Some (entries.Apart i j))) e w.2 in
-    let j = bind-some (region_number w.0.1 (names_of d)) (λ j. cond (eqb i.0 j) None (Some (entries.Apart i.0 j))) e i.2 in
+    let w = bind_some (two_words rest) (λ found. region_number found.0 (names_of d) >>= λ i. (region_number found.1 (names_of d) >>= λ j. cond (eqb i j) None (Some (entries.Apart i j)))) e h in
+    let i = bind_some (region_number w.0.0 (names_of d)) (λ i. region_number w.0.1 (names_of d) >>= λ j. cond (eqb i j) None (Some (entries.Apart i j))) e w.2 in
+    let j = bind_some (region_number w.0.1 (names_of d)) (λ j. cond (eqb i.0 j) None (Some (entries.Apart i.0 j))) e i.2 in
     let other = chosen_else (eqb i.0 j.0) (Some (entries.Apart i.0 j.0)) e j.2 in (
       i.0,
       j.0,
@@ -364,9 +364,9 @@ apart-known before d rest e tells h =
 scratch-known : (rest : List ℕ) (e : Entry) → scratch_entry rest ≡ Some e → (base len : Expr) × (entries.Scratch base len ≡ e) × IsScratchEntry (codes "scratch" ∷ parts 32 rest) base len
 unfolding scratch_entry
 scratch-known rest e h =
-    let w = bind-some (two_words rest) (λ found. expr_of found.0 >>= λ base. (expr_of found.1 >>= λ len. Some (entries.Scratch base len))) e h in
-    let base = bind-some (expr_of w.0.0) (λ base. expr_of w.0.1 >>= λ len. Some (entries.Scratch base len)) e w.2 in
-    let len = bind-some (expr_of w.0.1) (λ len. Some (entries.Scratch base.0 len)) e base.2 in (
+    let w = bind_some (two_words rest) (λ found. expr_of found.0 >>= λ base. (expr_of found.1 >>= λ len. Some (entries.Scratch base len))) e h in
+    let base = bind_some (expr_of w.0.0) (λ base. expr_of w.0.1 >>= λ len. Some (entries.Scratch base len)) e w.2 in
+    let len = bind_some (expr_of w.0.1) (λ len. Some (entries.Scratch base.0 len)) e base.2 in (
       base.0,
       len.0,
       same_Some (entries.Scratch base.0 len.0) e len.2,
@@ -376,8 +376,8 @@ scratch-known rest e h =
 stack-known : (d : Draft) (rest : List ℕ) (e : Entry) → stack_entry d rest ≡ Some e → (n : ℕ) × (entries.Stack n ≡ e) × IsStackEntry (codes "stack" ∷ parts 32 rest) n × (d.stacked ≡ false)
 unfolding stack_entry
 stack-known d rest e h =
-    let w = bind-some (cond d.stacked None (one_word rest)) (λ word. number_of word >>= λ n. cond (eqb (n % 8) 0 && leb n 4096) (Some (entries.Stack n)) None) e h in
-    let n = bind-some (number_of w.0) (λ n. cond (eqb (n % 8) 0 && leb n 4096) (Some (entries.Stack n)) None) e w.2 in
+    let w = bind_some (cond d.stacked None (one_word rest)) (λ word. number_of word >>= λ n. cond (eqb (n % 8) 0 && leb n 4096) (Some (entries.Stack n)) None) e h in
+    let n = bind_some (number_of w.0) (λ n. cond (eqb (n % 8) 0 && leb n 4096) (Some (entries.Stack n)) None) e w.2 in
     let first = chosen_else d.stacked (one_word rest) w.0 w.1 in
     let within = chosen_then (eqb (n.0 % 8) 0 && leb n.0 4096) (Some (entries.Stack n.0)) e n.2 in
     let both = and_parts (eqb (n.0 % 8) 0) (leb n.0 4096) within.0 in (
@@ -392,7 +392,7 @@ live-known : (d : Draft) (rest : Option (List ℕ)) (e : Entry) → live_entry d
 unfolding live_entry
 live-known d rest e h =
     let first = chosen_else d.lived (outputs_of (parts_left 32 rest) >>= λ live. Some (entries.Live live)) e h in
-    let live = bind-some (outputs_of (parts_left 32 rest)) (λ live. Some (entries.Live live)) e first.1 in
+    let live = bind_some (outputs_of (parts_left 32 rest)) (λ live. Some (entries.Live live)) e first.1 in
     (live.0, same_Some (entries.Live live.0) e live.2, outputs-known (parts_left 32 rest) live.0 live.1, first.0)
 
 behind-first : (before : List Line) (d : Draft) → Tells before d → (d.headed || false) ≡ true → before ≢ []
@@ -436,7 +436,7 @@ pub entry-known : (before : List Line) (d : Draft) (text : List ℕ) (e : Entry)
 unfolding entry_of
 entry-known before d text e tells h =
     let first = first_part 32 text in
-    let k = bind-some (keyword_of first.0) (λ keyword. cond (d.headed || is_admit keyword) (entry_with d keyword first.1) None) e h in
+    let k = bind_some (keyword_of first.0) (λ keyword. cond (d.headed || is_admit keyword) (entry_with d keyword first.1) None) e h in
     let headed = chosen_then (d.headed || is_admit k.0) (entry_with d k.0 first.1) e k.2 in
     let spelled : parts 32 text ≡ keyword_text k.0 ∷ parts_left 32 first.1 =
     cuts.parts-first 32 text ∙ ap (λ (w : List ℕ). w ∷ parts_left 32 first.1) (keyword-known first.0 k.0 k.1) in

@@ -7,7 +7,7 @@ use Rattle.std.proofs.lemmas.Fmt.{digits_decimal}
 use Rattle.admission_text.specs.Names.{hex_digit_value, hex_value, is_hex_digit, IsNumberText}
 use Rattle.admission_text.specs.Reading.{after_byte, hex_digits, hex_from, hex_of, number_by, number_of}
 use Rattle.admission_text.proofs.Decimals.{chosen_else, chosen_then, decimal-high, decimal-known, decimal-only, own}
-use Rattle.admission_text.proofs.TextParts.{bind-some}
+use Rattle.admission_text.proofs.TextParts.{bind_some}
 
 pub after_byte-known : (byte : ℕ) (text rest : List ℕ) → after_byte byte text ≡ Some rest → text ≡ byte ∷ rest
 unfolding after_byte
@@ -66,7 +66,7 @@ hex-only (c ∷ cs) some are small =
 hex_digits-known : (text digits : List ℕ) → hex_digits text ≡ Some digits → text ≡ codes "0x" ++ digits
 unfolding hex_digits
 hex_digits-known text digits h =
-    let p = bind-some (after_byte 48 text) (λ rest. after_byte 120 rest) digits h in
+    let p = bind_some (after_byte 48 text) (λ rest. after_byte 120 rest) digits h in
     after_byte-known 48 text p.0 p.1 ∙ ap (λ (x : List ℕ). 48 ∷ x) (after_byte-known 120 p.0 digits p.2)
 
 number-by : (text : List ℕ) (n : ℕ) (r : Option (List ℕ)) → hex_digits text ≡ r → number_by r text ≡ Some n → IsNumberText text n

@@ -11,7 +11,7 @@ use Rattle.align_base.specs.declared.output.Output.TheVariants.{Reg, Vec}
 use Rattle.admission_text.specs.Names.{general_names, IsGeneral, IsOutputText, IsVectorPrefix, names_64, names_32, names_16, names_8, numerals, place_from}
 use Rattle.admission_text.specs.Reading.{◌>>=◌, after_byte, general_number, general_output, numeral_number, output_named, output_of, outputs_of, register_of, vector_output}
 use Rattle.admission_text.proofs.Numbers.{after_byte-known}
-use Rattle.admission_text.proofs.TextParts.{bind-some}
+use Rattle.admission_text.proofs.TextParts.{bind_some}
 
 -- places in lists of names
 
@@ -103,7 +103,7 @@ numeral-at name n there = place-at numerals n name refl there
 pub register-known : (text : List ℕ) (n : ℕ) → register_of text ≡ Some n → IsGeneral text n 64
 unfolding register_of
 register-known text n h =
-    let name = bind-some (after_byte 37 text) (general_number 64) n h in
+    let name = bind_some (after_byte 37 text) (general_number 64) n h in
     (name.0, number-found 64 name.0 n name.2, after_byte-known 37 text name.0 name.1)
 
 pub register-only : (text : List ℕ) (n : ℕ) → IsGeneral text n 64 → register_of text ≡ Some n
@@ -119,7 +119,7 @@ either-known (Some x) b y h = inl h
 general-known : (w : ℕ) (text name : List ℕ) (o : Output) → text ≡ codes "%" ++ name → general_output w name ≡ Some o → IsOutputText text o
 unfolding general_output
 general-known w text name o spelled h =
-    let n = bind-some (general_number w name) (λ (n : ℕ). Some (Reg n w)) o h in
+    let n = bind_some (general_number w name) (λ (n : ℕ). Some (Reg n w)) o h in
     let means : Reg n.0 w ≡ o = same_Some (Reg n.0 w) o n.2 in
     subst (λ (x : Output). IsOutputText text x) means (name, number-found w name n.0 n.1, spelled)
 
@@ -127,10 +127,10 @@ vector-known : (letter w : ℕ) (text name : List ℕ) (o : Output) → IsVector
     → IsOutputText text o
 unfolding vector_output
 vector-known letter w text name o prefix spelled h =
-    let a = bind-some (after_byte letter name) (λ behind. after_byte 109 behind >>= λ more. (after_byte 109 more >>= λ numeral. (numeral_number numeral >>= λ (n : ℕ). Some (Vec n w)))) o h in
-    let b = bind-some (after_byte 109 a.0) (λ more. after_byte 109 more >>= λ numeral. (numeral_number numeral >>= λ (n : ℕ). Some (Vec n w))) o a.2 in
-    let c = bind-some (after_byte 109 b.0) (λ numeral. numeral_number numeral >>= λ (n : ℕ). Some (Vec n w)) o b.2 in
-    let d = bind-some (numeral_number c.0) (λ (n : ℕ). Some (Vec n w)) o c.2 in
+    let a = bind_some (after_byte letter name) (λ behind. after_byte 109 behind >>= λ more. (after_byte 109 more >>= λ numeral. (numeral_number numeral >>= λ (n : ℕ). Some (Vec n w)))) o h in
+    let b = bind_some (after_byte 109 a.0) (λ more. after_byte 109 more >>= λ numeral. (numeral_number numeral >>= λ (n : ℕ). Some (Vec n w))) o a.2 in
+    let c = bind_some (after_byte 109 b.0) (λ numeral. numeral_number numeral >>= λ (n : ℕ). Some (Vec n w)) o b.2 in
+    let d = bind_some (numeral_number c.0) (λ (n : ℕ). Some (Vec n w)) o c.2 in
     let means : Vec d.0 w ≡ o = same_Some (Vec d.0 w) o d.2 in
     let whole : name ≡ letter ∷ 109 ∷ 109 ∷ c.0 =
     after_byte-known letter name a.0 a.1 ∙ ap (λ (x : List ℕ). letter ∷ x) (after_byte-known 109 a.0 b.0 b.1 ∙ ap (λ (x : List ℕ). 109 ∷ x) (after_byte-known 109 b.0 c.0 c.1)) in
@@ -166,7 +166,7 @@ named-known text name o spelled h =
 pub output-known : (text : List ℕ) (o : Output) → output_of text ≡ Some o → IsOutputText text o
 unfolding output_of
 output-known text o h =
-    let name = bind-some (after_byte 37 text) output_named o h in
+    let name = bind_some (after_byte 37 text) output_named o h in
     named-known text name.0 o (after_byte-known 37 text name.0 name.1) name.2
 
 general-by : (w : ℕ) (name : List ℕ) (n : ℕ) → are_apart (general_names w) ≡ true → slice_get (general_names w) n ≡ Some name → general_output w name ≡ Some (Reg n w)
@@ -268,8 +268,8 @@ unfolding outputs_of
 outputs-known [] [] h = tt
 outputs-known [] (o ∷ os) h = absurd (cc)
 outputs-known (word ∷ more) live h =
-    let o = bind-some (output_of word) (λ output. outputs_of more >>= λ rest. Some (output ∷ rest)) live h in
-    let os = bind-some (outputs_of more) (λ rest. Some (o.0 ∷ rest)) live o.2 in
+    let o = bind_some (output_of word) (λ output. outputs_of more >>= λ rest. Some (output ∷ rest)) live h in
+    let os = bind_some (outputs_of more) (λ rest. Some (o.0 ∷ rest)) live o.2 in
     let means : o.0 ∷ os.0 ≡ live = cc in
     subst (λ (x : List Output). AllZip IsOutputText (word ∷ more) x) means (output-known word o.0 o.1, outputs-known more os.0 os.1)
 

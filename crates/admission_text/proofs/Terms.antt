@@ -13,7 +13,7 @@ use Rattle.admission_text.specs.Grammar.{AreTermTexts, IsExprText, IsTermText, s
 use Rattle.admission_text.specs.Reading.{◌>>=◌, after_byte, cut_at, cut_sign, expr_of, number_of, onto_term, register_of, term_by, term_of, terms_by, terms_of}
 use Rattle.admission_text.proofs.Numbers.{number-high, number-known, number-only}
 use Rattle.admission_text.proofs.Registers.{list_all-at, register-known, register-only}
-use Rattle.admission_text.proofs.TextParts.{bind-some, cut-outcome, IsCut}
+use Rattle.admission_text.proofs.TextParts.{bind_some, cut-outcome, IsCut}
 
 -- bytes that a text lacks
 
@@ -90,8 +90,8 @@ term-by minus text None t cut h =
           subst (IsSignedTerm minus text) p.2 (inl (number-known text p.0 p.1, refl), refl)
     ]
 term-by minus text (Some factors) t cut h =
-    let c = bind-some (number_of factors.0) (λ c. register_of factors.1 >>= λ n. Some (product_term minus c n)) t h in
-    let n = bind-some (register_of factors.1) (λ n. Some (product_term minus c.0 n)) t c.2 in
+    let c = bind_some (number_of factors.0) (λ c. register_of factors.1 >>= λ n. Some (product_term minus c n)) t h in
+    let n = bind_some (register_of factors.1) (λ n. Some (product_term minus c.0 n)) t c.2 in
     let means : product_term minus c.0 n.0 ≡ t = same_Some (product_term minus c.0 n.0) t n.2 in
     subst (IsSignedTerm minus text) means
     (inr (inr (factors.0, factors.1, n.0, number-known factors.0 c.0 c.1, register-known factors.1 n.0 n.1, cut.2, refl)), refl)
@@ -214,13 +214,13 @@ by_cut : (left : ℕ) → ((minus : Bool) (text : List ℕ) (us : List Term) →
     → (minus : Bool) (text : List ℕ) (ts : List Term) (r : Option (List ℕ × Bool × List ℕ)) → IsSignCut text r → terms_by r minus text (terms_of left) ≡ Some ts
     → AreRead (suc left) minus text ts
 by_cut left more minus text ts None cut g =
-    let t = bind-some (term_of minus text) (λ (t : Term). Some (t ∷ [])) ts g in
+    let t = bind_some (term_of minus text) (λ (t : Term). Some (t ∷ [])) ts g in
     let means : t.0 ∷ [] ≡ ts = same_Some (t.0 ∷ []) ts t.2 in
     let term = term-known minus text t.0 t.1 in
     subst (AreRead (suc left) minus text) means (record { texts = term.0; sign = term.1; few = omega arith })
 by_cut left more minus text ts (Some found) cut g =
-    let t = bind-some (term_of minus found.0) (λ (t : Term). terms_of left found.1 found.2 >>= λ (us : List Term). Some (t ∷ us)) ts g in
-    let us = bind-some (terms_of left found.1 found.2) (λ (us : List Term). Some (t.0 ∷ us)) ts t.2 in
+    let t = bind_some (term_of minus found.0) (λ (t : Term). terms_of left found.1 found.2 >>= λ (us : List Term). Some (t ∷ us)) ts g in
+    let us = bind_some (terms_of left found.1 found.2) (λ (us : List Term). Some (t.0 ∷ us)) ts t.2 in
     let means : t.0 ∷ us.0 ≡ ts = same_Some (t.0 ∷ us.0) ts us.2 in
     subst (AreRead (suc left) minus text) means
     (joined left minus found.1 text found.0 found.2 t.0 us.0 cut (term-known minus found.0 t.0 t.1) (more found.1 found.2 us.0 us.1))
@@ -263,7 +263,7 @@ expr_with ts = record { terms = ts }
 pub expr-known : (text : List ℕ) (e : Expr) → expr_of text ≡ Some e → IsExprText text e
 unfolding expr_of
 expr-known text e h =
-    let ts = bind-some (terms_of 8 false text) (λ (ts : List Term). Some (expr_with ts)) e h in
+    let ts = bind_some (terms_of 8 false text) (λ (ts : List Term). Some (expr_with ts)) e h in
     let means : expr_with ts.0 ≡ e = same_Some (expr_with ts.0) e ts.2 in
     let read = terms-known 8 false text ts.0 ts.1 in
     subst (IsExprText text) means (record { terms = read.texts; first = first-added ts.0 read.sign; few = read.few })

@@ -9,9 +9,9 @@ use Rattle.admission_text.specs.Reading.{◌>>=◌, cut_at, first_by, first_part
 use Rattle.admission_text.proofs.Pieces.{left_size}
 
 -- what is behind a value that a chain gives
-pub bind-some : {A B : Type 0} (o : Option A) (f : A → Option B) (y : B) → (o >>= f) ≡ Some y → (x : A) × (o ≡ Some x) × (f x ≡ Some y)
-bind-some None f y h = absurd (cc)
-bind-some (Some x) f y h = (x, refl, h)
+pub bind_some : {A B : Type 0} (o : Option A) (f : A → Option B) (y : B) → (o >>= f) ≡ Some y → (x : A) × (o ≡ Some x) × (f x ≡ Some y)
+bind_some None f y h = absurd (cc)
+bind_some (Some x) f y h = (x, refl, h)
 
 pub first-same : {X : Type 0} {x y : X} {xs ys : List X} → x ∷ xs ≡ y ∷ ys → x ≡ y
 first-same e = cc
@@ -100,7 +100,7 @@ chain-some : {B C : Type 0} (next : List ℕ → Option B) (make : List ℕ → 
     → (r >>= λ found. (next found.1 >>= λ more. Some (make found.0 more))) ≡ Some w
     → (found : List ℕ × List ℕ) × (more : B) × (r ≡ Some found) × (next found.1 ≡ Some more) × (make found.0 more ≡ w)
 chain-some next make None w h = absurd (cc)
-chain-some next make (Some found) w h = let p = bind-some (next found.1) (λ more. Some (make found.0 more)) w h in (found, p.0, refl, p.1, same_Some (make found.0 p.0) w p.2)
+chain-some next make (Some found) w h = let p = bind_some (next found.1) (λ more. Some (make found.0 more)) w h in (found, p.0, refl, p.1, same_Some (make found.0 p.0) w p.2)
 
 pub two-known : (text : List ℕ) (w : List ℕ × List ℕ) → two_words text ≡ Some w → parts 32 text ≡ w.0 ∷ w.1 ∷ []
 unfolding two_words

@@ -25,7 +25,8 @@ abbrev pub AreEntries : List Line → List Line → List Entry → Type 0
 AreEntries before [] [] = Unit {0}
 AreEntries before [] (e ∷ es) = ⊥
 AreEntries before (l ∷ ls) [] = ⊥
-AreEntries before (l ∷ ls) (e ∷ es) = IsEntry before l.words e × (goes_over before l.words ≡ false) × AreEntries (before ++ l ∷ []) ls es
+AreEntries before (l ∷ ls) (e ∷ es) =
+    IsEntry before l.words e × (goes_over before l.words ≡ false) × AreEntries (before ++ l ∷ []) ls es
 
 -- the admission with what a line says
 abbrev pub with_entry : Admission → Entry → Admission

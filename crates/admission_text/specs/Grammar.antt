@@ -63,6 +63,7 @@ region_names lines = filter_map (λ (l : Line). name_in l.words) lines
 abbrev pub region_number : List ℕ → List (List ℕ) → Option ℕ
 region_number name names = place_from 0 names name
 
+-- a lower-case letter
 abbrev pub is_lower : ℕ → Bool
 is_lower b = nat_le 97 b && nat_le b 122
 
@@ -80,7 +81,8 @@ abbrev pub IsTermText : List ℕ → Term → Type 0
 IsTermText text t =
     (IsNumberText text t.c × (t.reg ≡ None))
     ⊎ (((n : ℕ) × IsGeneral text n 64 × (t.c ≡ 1) × (t.reg ≡ Some n))
-    ⊎ ((number register : List ℕ) × (n : ℕ) × IsNumberText number t.c × IsGeneral register n 64 × (text ≡ number ++ (codes "*" ++ register)) × (t.reg ≡ Some n)))
+    ⊎ ((number register : List ℕ) × (n : ℕ) × IsNumberText number t.c × IsGeneral register n 64
+    × (text ≡ number ++ (codes "*" ++ register)) × (t.reg ≡ Some n)))
 
 -- what stands before a term that is added, or subtracted
 abbrev pub sign_of : Bool → ℕ
@@ -99,6 +101,7 @@ pub record IsExprText (text : List ℕ) (e : Expr) : Type 0 where
   pub first : IsFirstAdded e.terms
   pub few : length e.terms ≤ 8
 
+-- how a relation is written
 abbrev pub relation : Rel → List ℕ
 relation Eq = codes "="
 relation Ne = codes "!="

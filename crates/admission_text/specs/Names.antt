@@ -10,11 +10,13 @@ names_64 =
     codes "rax" ∷ codes "rcx" ∷ codes "rdx" ∷ codes "rbx" ∷ codes "rsp" ∷ codes "rbp" ∷ codes "rsi" ∷ codes "rdi"
     ∷ codes "r8" ∷ codes "r9" ∷ codes "r10" ∷ codes "r11" ∷ codes "r12" ∷ codes "r13" ∷ codes "r14" ∷ codes "r15" ∷ []
 
+-- the names of the general registers of 32 bits, by number
 abbrev pub names_32 : List (List ℕ)
 names_32 =
     codes "eax" ∷ codes "ecx" ∷ codes "edx" ∷ codes "ebx" ∷ codes "esp" ∷ codes "ebp" ∷ codes "esi" ∷ codes "edi"
     ∷ codes "r8d" ∷ codes "r9d" ∷ codes "r10d" ∷ codes "r11d" ∷ codes "r12d" ∷ codes "r13d" ∷ codes "r14d" ∷ codes "r15d" ∷ []
 
+-- the names of those of 16 bits, by number
 abbrev pub names_16 : List (List ℕ)
 names_16 =
     codes "ax" ∷ codes "cx" ∷ codes "dx" ∷ codes "bx" ∷ codes "sp" ∷ codes "bp" ∷ codes "si" ∷ codes "di"
@@ -54,7 +56,8 @@ IsGeneral text n w = (name : List ℕ) × (slice_get (general_names w) n ≡ Som
 abbrev pub IsOutputText : List ℕ → Output → Type 0
 IsOutputText text (Reg n w) = IsGeneral text n w
 IsOutputText text (Vec n w) =
-    (prefix numeral : List ℕ) × IsVectorPrefix prefix w × (slice_get numerals n ≡ Some numeral) × (text ≡ codes "%" ++ prefix ++ numeral)
+    (prefix numeral : List ℕ) × IsVectorPrefix prefix w × (slice_get numerals n ≡ Some numeral)
+    × (text ≡ codes "%" ++ prefix ++ numeral)
 
 -- a digit of base 16: 0 to 9, a to f or A to F
 abbrev pub is_hex_digit : ℕ → Bool

@@ -21,6 +21,7 @@ use Rattle.admission_text.specs.Names.{numerals, general_names, place_from, is_h
 use Rattle.admission_text.specs.Grammar.{is_lower, is_name_byte, parts, region_number}
 
 infixl 10 ◌>>=◌
+-- what follows, where there is a value
 abbrev pub ◌>>=◌ : {A B : Type 0} → Option A → (A → Option B) → Option B
 o >>= f = option_and_then f o
 
@@ -41,6 +42,7 @@ unfoldable pub cut_at : ℕ → List ℕ → Option (List ℕ × List ℕ)
 cut_at byte [] = None
 cut_at byte (b ∷ bs) = if b == byte then Some ([], bs) else onto_front b (cut_at byte bs)
 
+-- the part before a cut and the part behind it, or the whole text
 abbrev pub first_by : List ℕ → Option (List ℕ × List ℕ) → List ℕ × Option (List ℕ)
 first_by text None = (text, None)
 first_by text (Some found) = (found.0, Some found.1)
@@ -58,24 +60,28 @@ parts_left byte (Some text) = parts byte text
 unfoldable pub one_word : List ℕ → Option (List ℕ)
 one_word text = if is_none (cut_at 32 text) then Some text else None
 
+-- two of them
 unfoldable pub two_words : List ℕ → Option (List ℕ × List ℕ)
 two_words text = do
   found ← cut_at 32 text
   last ← one_word found.1
   Some (found.0, last)
 
+-- three of them
 unfoldable pub three_words : List ℕ → Option (List ℕ × List ℕ × List ℕ)
 three_words text = do
   found ← cut_at 32 text
   more ← two_words found.1
   Some (found.0, more.0, more.1)
 
+-- four of them
 unfoldable pub four_words : List ℕ → Option (List ℕ × List ℕ × List ℕ × List ℕ)
 four_words text = do
   found ← cut_at 32 text
   more ← three_words found.1
   Some (found.0, more.0, more.1, more.2)
 
+-- five of them
 unfoldable pub five_words : List ℕ → Option (List ℕ × List ℕ × List ℕ × List ℕ × List ℕ)
 five_words text = do
   found ← cut_at 32 text
@@ -95,10 +101,13 @@ unfoldable pub decimal_of : List ℕ → Option ℕ
 decimal_of digits =
     if (length digits == 0) || (nat_lt 1 (length digits) && (slice_index digits 0 == 48)) then None else decimal_from 0 digits
 
+-- digits of base 16 read behind those that gave n, as long as the number is below 2^64
 unfoldable pub hex_from : ℕ → List ℕ → Option ℕ
 hex_from n [] = Some n
 hex_from n (c ∷ cs) =
-    if is_hex_digit c then (if nat_lt (2 ^ 64 - 1) (16 * n + hex_digit_value c) then None else hex_from (16 * n + hex_digit_value c) cs) else None
+    if is_hex_digit c
+    then (if nat_lt (2 ^ 64 - 1) (16 * n + hex_digit_value c) then None else hex_from (16 * n + hex_digit_value c) cs)
+    else None
 
 -- a number in digits of base 16
 unfoldable pub hex_of : List ℕ → Option ℕ
@@ -110,6 +119,7 @@ hex_digits text = do
   rest ← after_byte 48 text
   after_byte 120 rest
 
+-- the number of these digits of base 16, or of the decimal digits of the text
 abbrev pub number_by : Option (List ℕ) → List ℕ → Option ℕ
 number_by None text = decimal_of text
 number_by (Some digits) text = hex_of digits
@@ -134,6 +144,7 @@ register_of text = do
   name ← after_byte 37 text
   general_number 64 name
 
+-- the general register of w bits of this name
 unfoldable pub general_output : ℕ → List ℕ → Option Output
 general_output w name = do
   n ← general_number w name
@@ -148,10 +159,11 @@ vector_output letter w name = do
   n ← numeral_number numeral
   Some (Vec n w)
 
+-- the register of this name, without its percent sign
 unfoldable pub output_named : List ℕ → Option Output
 output_named name =
-    option_or (option_or (option_or (option_or (option_or (general_output 64 name) (general_output 32 name)) (general_output 16 name)) (general_output 8 name))
-    (vector_output 120 128 name)) (vector_output 121 256 name)
+    option_or (option_or (option_or (option_or (option_or (general_output 64 name) (general_output 32 name))
+    (general_output 16 name)) (general_output 8 name)) (vector_output 120 128 name)) (vector_output 121 256 name)
 
 -- the output that is written so
 unfoldable pub output_of : List ℕ → Option Output
@@ -166,6 +178,7 @@ outputs_of (word ∷ more) = output_of word >>= λ output. (outputs_of more >>= 
 
 -- expressions
 
+-- the product of a number and a register, or one of the two
 abbrev pub term_by : Bool → Option (List ℕ × List ℕ) → List ℕ → Option Term
 term_by minus None text =
     option_or (option_map (λ n. record { minus = minus; c = 1; reg = Some n }) (register_of text))
@@ -177,6 +190,7 @@ term_by minus (Some factors) text =
 unfoldable pub term_of : Bool → List ℕ → Option Term
 term_of minus text = term_by minus (cut_at 42 text) text
 
+-- a byte before the first of two parts
 abbrev pub onto_term : ℕ → Option (List ℕ × Bool × List ℕ) → Option (List ℕ × Bool × List ℕ)
 onto_term b None = None
 onto_term b (Some found) = Some (b ∷ found.0, found.1, found.2)
@@ -202,6 +216,7 @@ expr_of text = terms_of 8 false text >>= λ ts. Some (record { terms = ts })
 
 -- lines
 
+-- the relation that is written so
 unfoldable pub relation_of : List ℕ → Option Rel
 relation_of word =
     if bytes_eq word (codes "=") then Some Eq
@@ -218,6 +233,7 @@ is_modulus m =
     (m == 2) || ((m == 4) || ((m == 8) || ((m == 16) || ((m == 32) || ((m == 64) || ((m == 128) || ((m == 256) || ((m == 512)
     || ((m == 1024) || ((m == 2048) || (m == 4096)))))))))))
 
+-- a name of a region: a lower-case letter, and then at most 15 letters and digits
 unfoldable pub is_region_name : List ℕ → Bool
 is_region_name [] = false
 is_region_name (b ∷ bs) = is_lower b && (list_all is_name_byte bs && nat_le (length bs) 15)
@@ -230,6 +246,7 @@ right_of word = if bytes_eq word (codes "write") then Some true else if bytes_eq
 abbrev pub names_of : Draft → List (List ℕ)
 names_of d = map (λ (r : RegionLine). r.name) d.admission.regions
 
+-- `NAME BASE LEN RIGHT` behind `region`
 unfoldable pub region_entry : Draft → List ℕ → Option Entry
 region_entry d rest = do
   found ← four_words rest
@@ -238,6 +255,7 @@ region_entry d rest = do
   len ← expr_of found.2
   Some (entries.Region (record { name = found.0; base = base; len = len; write = write }))
 
+-- `E mod M = R` behind `require`
 unfoldable pub modulo_need : List ℕ → List ℕ → List ℕ → List ℕ → List ℕ → Option Need
 modulo_need left word modulus equals rest = do
   m ← (if bytes_eq word (codes "mod") && bytes_eq equals (codes "=") then number_of modulus else None)
@@ -245,6 +263,7 @@ modulo_need left word modulus equals rest = do
   a ← (if is_modulus m && nat_lt r m then expr_of left else None)
   Some (Modulo a m r)
 
+-- `E RELATION E` behind `require`
 unfoldable pub compare_need : List ℕ → List ℕ → List ℕ → Option Need
 compare_need left word right = do
   rel ← relation_of word
@@ -252,13 +271,16 @@ compare_need left word right = do
   b ← expr_of right
   Some (Compare a rel b)
 
+-- the need that five words spell, or else three
 abbrev pub need_by : Option (List ℕ × List ℕ × List ℕ × List ℕ × List ℕ) → List ℕ → Option Need
 need_by None rest = three_words rest >>= λ found. compare_need found.0 found.1 found.2
 need_by (Some found) rest = modulo_need found.0 found.1 found.2 found.3 found.4
 
+-- what stands behind `require`
 unfoldable pub require_entry : List ℕ → Option Entry
 require_entry rest = need_by (five_words rest) rest >>= λ n. Some (entries.Require n)
 
+-- `NAME NAME` behind `apart`
 unfoldable pub apart_entry : Draft → List ℕ → Option Entry
 apart_entry d rest = do
   found ← two_words rest
@@ -266,6 +288,7 @@ apart_entry d rest = do
   j ← region_number found.1 (names_of d)
   if i == j then None else Some (entries.Apart i j)
 
+-- `BASE LEN` behind `scratch`
 unfoldable pub scratch_entry : List ℕ → Option Entry
 scratch_entry rest = do
   found ← two_words rest
@@ -273,15 +296,18 @@ scratch_entry rest = do
   len ← expr_of found.1
   Some (entries.Scratch base len)
 
+-- the number behind `stack`, where no line before was `stack`
 unfoldable pub stack_entry : Draft → List ℕ → Option Entry
 stack_entry d rest = do
   word ← (if d.stacked then None else one_word rest)
   n ← number_of word
   if ((n % 8) == 0) && nat_le n 4096 then Some (entries.Stack n) else None
 
+-- the outputs behind `live`, where no line before was `live`
 unfoldable pub live_entry : Draft → Option (List ℕ) → Option Entry
 live_entry d rest = if d.lived then None else (outputs_of (parts_left 32 rest) >>= λ live. Some (entries.Live live))
 
+-- the `1` behind `admit`, on the first line alone
 unfoldable pub header_entry : Draft → List ℕ → Option Entry
 header_entry d rest = if d.headed || not (bytes_eq rest (codes "1")) then None else Some entries.Header
 
@@ -307,6 +333,7 @@ entry_with d words.Scratch rest = rest >>= scratch_entry
 entry_with d words.Stack rest = rest >>= stack_entry d
 entry_with d words.Live rest = live_entry d rest
 
+-- the keyword of the first line
 abbrev pub is_admit : Keyword → Bool
 is_admit words.Admit = true
 is_admit _ = false

@@ -25,23 +25,31 @@ is_over d (Scratch base len) = nat_le 4 (length d.admission.scratch)
 is_over d (Stack n) = false
 is_over d (Live live) = nat_le 17 (length live)
 
+-- a line of stack bytes
 abbrev pub is_stack : Entry → Bool
 is_stack (Stack n) = true
 is_stack _ = false
 
+-- a line of live outputs
 abbrev pub is_live : Entry → Bool
 is_live (Live live) = true
 is_live _ = false
 
 -- the draft behind a line
 abbrev pub drafted_with : Draft → Entry → Draft
-drafted_with d e = record { admission = with_entry d.admission e; headed = true; stacked = d.stacked || is_stack e; lived = d.lived || is_live e }
+drafted_with d e = record {
+  admission = with_entry d.admission e;
+  headed = true;
+  stacked = d.stacked || is_stack e;
+  lived = d.lived || is_live e;
+}
 
 -- a line of this number
 abbrev pub judged : ℕ → Draft → Option Entry → Result Draft AdmitRefusal
 judged line d None = Err (BadLine line)
 judged line d (Some e) = if is_over d e then Err (TooMany line) else Ok (drafted_with d e)
 
+-- the draft behind a line, skipped or read
 unfoldable pub behind_line : ℕ → Draft → List ℕ → Result Draft AdmitRefusal
 behind_line line d text = if is_skipped text then Ok d else judged line d (entry_of d text)
 
@@ -58,5 +66,6 @@ behind_lines line d (text ∷ texts) = behind_line (next_line line) d text >>= �
 abbrev pub finished : Draft → Result Admission AdmitRefusal
 finished d = if d.lived then Ok d.admission else Err NoLive
 
+-- the admission that a text spells, or its first fault
 unfoldable pub admission_of : List ℕ → Result Admission AdmitRefusal
 admission_of text = behind_lines 0 no_draft (parts 10 text) >>= finished

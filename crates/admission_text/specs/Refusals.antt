@@ -21,6 +21,7 @@ fault_line (TooMany n) = n
 fault_line NoLive = 0
 fault_line Memory = 0
 
+-- the order of the faults of one line
 abbrev pub rank : AdmitRefusal → ℕ
 rank (BadLine n) = 0
 rank (TooMany n) = 1
@@ -45,7 +46,8 @@ given Memory = Memory
 -- the refusal of a text: its first fault, else that no line is `live`
 pub data IsRefused (text : List ℕ) (e : AdmitRefusal) : Type 0 where
   Faulty : (first : AdmitRefusal) → IsFirst IsFault Precedes [] (lines_of text) first → e ≡ given first → IsRefused text e
-  Dead : ((other : AdmitRefusal) → HasFault IsFault [] (lines_of text) other → ⊥) → has_line (codes "live") (lines_of text) ≡ false → e ≡ NoLive
+  Dead : ((other : AdmitRefusal) → HasFault IsFault [] (lines_of text) other → ⊥)
+      → has_line (codes "live") (lines_of text) ≡ false → e ≡ NoLive
       → IsRefused text e
 
 -- what was answered is so; where memory was not found nothing is said

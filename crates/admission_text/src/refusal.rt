@@ -16,7 +16,7 @@ pub enum AdmitRefusal {
     /// No line names the live outputs.
     #[error("no line is `live`")]
     NoLive,
-    /// Memory was wanted and not found.
+    /// Out of memory.
     #[error("out of memory")]
     Memory,
 }

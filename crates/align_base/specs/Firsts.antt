@@ -21,6 +21,7 @@ pub record HasFault {X E : Type 0} (F : List X → X → E → Type 0) (prefix i
   pub wrong : F (prefix ++ before) item e
 
 -- a fault that precedes every fault
-pub record IsFirst {X E : Type 0} (F : List X → X → E → Type 0) (Precedes : E → E → Type 0) (prefix items : List X) (e : E) : Type 0 where
+pub record IsFirst {X E : Type 0} (F : List X → X → E → Type 0) (Precedes : E → E → Type 0)
+    (prefix items : List X) (e : E) : Type 0 where
   pub has : HasFault F prefix items e
   pub least : (other : E) → HasFault F prefix items other → Precedes e other

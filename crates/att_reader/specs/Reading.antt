@@ -23,6 +23,7 @@ listed (Ok None) = Ok []
 listed (Ok (Some i)) = Ok (i ∷ [])
 listed (Err e) = Err e
 
+-- an answer's one instruction as a list
 abbrev pub single : Result Insn ReadRefusal → Result (List Insn) ReadRefusal
 single (Ok i) = Ok (i ∷ [])
 single (Err e) = Err e

@@ -9,6 +9,7 @@ use Rattle.text_lines.specs.Cutting.{cut_at}
 use Rattle.att_statements.specs.Operands.{Written, Immediate, Label, Plain, digit_value, register_names, open_behind, integer}
 
 infixl 10 ◌>>=◌
+-- what follows, where there is a value
 abbrev pub ◌>>=◌ : {A B : Type 0} → Option A → (A → Option B) → Option B
 o >>= f = option_and_then f o
 
@@ -46,6 +47,7 @@ abbrev pub signed_by : Option (List ℕ) → List ℕ → Option (Bool × ℕ)
 signed_by (Some amount) text = option_map (λ (n : ℕ). (true, n)) (amount_of amount)
 signed_by None text = option_map (λ (n : ℕ). (false, n)) (amount_of text)
 
+-- whether a number has a minus sign, and its amount
 unfoldable pub number_of : List ℕ → Option (Bool × ℕ)
 number_of text = signed_by (after_byte 45 text) text
 
@@ -130,6 +132,7 @@ base_of part = if length (trim part) == 0 then Some None else option_map (λ (n 
 unfoldable pub index_of : List ℕ → Option (Option ℕ)
 index_of part = address_register part >>= (λ (n : ℕ). if n == 4 then None else Some (Some n))
 
+-- the scale that one digit is
 abbrev pub scale_by : List ℕ → Option ℕ
 scale_by (b ∷ []) =
     if b == 49 then Some 1 else if b == 50 then Some 2 else if b == 52 then Some 4 else if b == 56 then Some 8 else None
@@ -167,9 +170,11 @@ abbrev pub is_offset : List ℕ → Bool
 is_offset [] = true
 is_offset (sign ∷ digits) = ((sign == 43) || (sign == 45)) && is_some (decimal_of digits)
 
+-- a name, and behind it nothing or an offset
 unfoldable pub is_symbol : List ℕ → Bool
 is_symbol text = is_name (prefix_of is_name_byte text) && is_offset (behind_prefix is_name_byte text)
 
+-- a symbol, and then `%rip` in parentheses
 abbrev pub is_relative : Option (List ℕ × List ℕ) → Bool
 is_relative None = false
 is_relative (Some parts) = is_symbol parts.0 && bytes_eq (trim parts.1) (codes "%rip")
@@ -195,6 +200,7 @@ bare_by (Some number) name text = dollar_by (number_of number) (is_some (digits_
 bare_by None (Some name) text = option_map (λ o. Plain o) (register_named name)
 bare_by None None text = label_of text
 
+-- the operand with what stands before and inside its parentheses, or without any
 abbrev pub written_by : Option (List ℕ × List ℕ) → List ℕ → Option Written
 written_by (Some parts) text = option_map (λ o. Plain o) (memory_of parts.0 parts.1)
 written_by None text = bare_by (after_byte 36 text) (after_byte 37 text) text

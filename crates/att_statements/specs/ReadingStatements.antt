@@ -93,6 +93,7 @@ answered_by operands (Err misfits.BadOperand) = Err BadOperand
 answered_by operands (Err misfits.BadNumber) = Err BadNumber
 answered_by operands (Ok i) = if operands.beyond then Err BadNumber else if operands.lost then Err UnknownLabel else Ok i
 
+-- the instruction of operands that were read, or BadOperand
 abbrev pub fitted_by : Shape → ℕ → Option Operands → Result Insn ReadKind
 fitted_by shape line None = Err BadOperand
 fitted_by shape line (Some operands) = answered_by operands (fits_of shape operands.args line)
@@ -102,6 +103,7 @@ unfoldable pub insn_with : (List ℕ → Option ℕ) → Shape → List (List �
 insn_with target shape texts line =
     if list_any is_pool_part texts then Err PoolRefused else fitted_by shape line (four_in target shape.op texts)
 
+-- the instruction of a mnemonic that the table has, or UnknownInstruction
 abbrev pub insn_by : (List ℕ → Option ℕ) → Option Shape → List (List ℕ) → ℕ → Result Insn ReadKind
 insn_by target None texts line = Err UnknownInstruction
 insn_by target (Some shape) texts line = insn_with target shape texts line

@@ -81,6 +81,7 @@ HasPlace L (Label name) = (place : ℕ) × L name place
 HasPlace L (Immediate negative n) = Unit {0}
 HasPlace L (Plain operand) = Unit {0}
 
+-- the move that takes all immediates of 64 bits
 abbrev pub is_movabs : Op → Bool
 is_movabs Movabs = true
 is_movabs _ = false

@@ -15,8 +15,6 @@ mod operand;
 mod part;
 mod registers;
 mod statements;
-#[cfg(test)]
-mod tests;
 
 pub use laws::statements_are_read;
 pub(crate) use part::{Operands, Part};

@@ -15,7 +15,7 @@ enum Escape {
 
 /// The bytes that a field spells: `\n`, `\r`, `\s` (a space), `\\`, `\-` (the byte 255, which is no
 /// text) and `\#N;`, N line ends. All other bytes spell themselves.
-pub fn spelled(alloc: Global, field: &str) -> Result<Vec<u8>, Memory> {
+pub(crate) fn spelled(alloc: Global, field: &str) -> Result<Vec<u8>, Memory> {
     let mut bytes = Vec::new(alloc);
     let mut escape = Escape::Outside;
     for byte in field.as_bytes() {

@@ -1,12 +1,11 @@
 -- The function that items spell, or why they spell none: what is read is right, and it is the one answer.
-use Rattle.std.proofs.Common.{◌≡◌, ◌≢◌, ℕ, ◌+◌, ◌-◌, ◌<◌, ◌≤◌, Bool, true, false, cond, ◌⊎◌, inl, inr, List, [], ◌∷◌, ◌++◌, length, slice_get, Option, Some, None, Result, Ok, Err, refl, sym, ap, ◌∙◌, subst, arith}
-use Rattle.std.specs.List.{list_any, filter, AllZip}
+use Rattle.std.proofs.Common.{◌≡◌, ℕ, ◌-◌, Bool, true, false, cond, inl, inr, List, [], ◌∷◌, ◌++◌, length, slice_get, Option, Some, None, Result, Ok, Err, refl, sym, ap, ◌∙◌, subst, arith}
+use Rattle.std.specs.List.{filter, AllZip}
 use Rattle.std.specs.Option.{option_map_or}
-use Rattle.std.proofs.lemmas.Bool.{both_ways}
-use Rattle.std.proofs.lemmas.Option.{same_Some, none-some}
+use Rattle.std.proofs.lemmas.Option.{same_Some}
 use Rattle.align_base.specs.declared.op.Op.{Op}
-use Rattle.align_base.specs.declared.op.Op.TheVariants.{Mov, Movabs, Add, Sub, Cmp, Test, And, Or, Xor, Inc, Dec, Neg, Not, Shl, Shr, Sar, Imul, Lea, Movzx, Movsx, Cltq, Cmov, Set, Jump, Jmp, Push, Pop, Ret, Nop, Endbr64}
-use Rattle.align_base.specs.Firsts.{◌>>=◌, HasFault, IsFirst}
+use Rattle.align_base.specs.declared.op.Op.TheVariants.{Jmp, Ret}
+use Rattle.align_base.specs.Firsts.{◌>>=◌}
 use Rattle.align_base.proofs.FirstFaults.{IsOutcome, first-once}
 use Rattle.insn_table.specs.declared.insn.Insn.{Insn}
 use Rattle.insn_table.specs.Closed.{IsLeaving}
@@ -16,7 +15,7 @@ use Rattle.text_lines.specs.Lines.{Item, Label, Statement}
 use Rattle.text_lines.specs.Kinds.{rank, line_number}
 use Rattle.text_lines.specs.Statements.{FindsTargets, Reads}
 use Rattle.text_lines.proofs.TextItems as order
-use Rattle.function_body.specs.Body.{is_label, is_code, IsExtent, IsTarget}
+use Rattle.function_body.specs.Body.{is_code, IsExtent, IsTarget}
 use Rattle.function_body.specs.Faults.{Fault, fault, IsFault, Precedes, HasBodyFault, IsFirstFault}
 use Rattle.function_body.specs.Functions.{Spells, AreInsns, Leaves, last_line, IsFunction, AreRefused, Missing, Faulty, Open}
 use Rattle.function_body.specs.Reading.{target_of, extent_of, insns_of, is_leaving, leaves, closed_by, read_extent, insns_in}

@@ -1,7 +1,7 @@
 -- Single turns of the code on bodies and their labels.
-use Rattle.std.proofs.Common.{◌≡◌, ℕ, zero, suc, ◌+◌, ◌-◌, ◌^◌, ◌<◌, ◌≤◌, min, Bool, true, false, cond, ltb, eqb, not, ◌||◌, List, [], ◌∷◌, ◌++◌, length, take, drop, map, Option, Some, None, refl, sym, ap, ◌∙◌, subst, Bor, get_or, drop-cons, append-nil, add-one, length-append, arith}
+use Rattle.std.proofs.Common.{◌≡◌, ℕ, zero, suc, ◌+◌, ◌-◌, ◌^◌, ◌<◌, ◌≤◌, min, Bool, true, false, cond, ltb, eqb, ◌||◌, List, [], ◌∷◌, ◌++◌, length, take, drop, map, Option, Some, None, refl, sym, ap, ◌∙◌, inl, inr, Bor, get_or, drop-cons, add-one, length-append, arith}
 use Rattle.std.specs.List.{list_any, count_by}
-use Rattle.std.specs.Option.{option_or, is_some}
+use Rattle.std.specs.Option.{option_or}
 use Rattle.std.proofs.lemmas.Option.{same_Some}
 use Rattle.std.specs.Str.{bytes_eq}
 use Rattle.std.specs.Map.{lookup}
@@ -11,7 +11,7 @@ use Rattle.std.specs.declared.cmp.Ordering.TheVariants.{Less, Equal, Greater}
 use Rattle.std.specs.BTreeMap.{insert_entry}
 use Rattle.std.specs.Cmp.{both_ways as same_tests}
 use Rattle.std.specs.Cmp.Lexicographic.{slice_cmp}
-use Rattle.std.proofs.lemmas.Bool.{both_ways, lt-ltb, le-ltb}
+use Rattle.std.proofs.lemmas.Bool.{both_ways, cases_lt, lt-ltb, le-ltb}
 use Rattle.std.proofs.Math.ListN.{drop_of_length-le}
 use Rattle.std.proofs.lemmas.List.{length-map, take-map, drop-map}
 use Rattle.std.proofs.lemmas.Map.Text.{is_eq-slice_cmp}
@@ -23,8 +23,8 @@ use Rattle.function_body.specs.declared.labels.First.{First}
 use Rattle.function_body.specs.Body.{is_label, is_code}
 use Rattle.function_body.specs.Reading.{count_of, inside_of, behind_body, body_split, target_from, target_of}
 use Rattle.function_body.specs.Functions.{line_of, last_line}
-use Rattle.function_body.specs.Firsts.{first_from, target_by}
-use Rattle.function_body.proofs.Counts.{count-cons, any-counted, none-counted}
+use Rattle.function_body.specs.Firsts.{AreDistinct, first_from, target_by}
+use Rattle.function_body.proofs.Counts.{count-cons, any-counted, count_by-none}
 use Rattle.function_body.proofs.Extents.{inside-known}
 
 -- bodies
@@ -142,17 +142,22 @@ added-lookup es new k v is absent name =
     ∙ absent_first (bytes_eq name k.now) (found name es) v (λ e. ap (λ (x : List ℕ). found x es) ((bytes_eq-Decides name k.now).0 e) ∙ absent)
     ∙ ap (λ t. option_or (found name es) (cond t (Some v) None)) (bytes_eq-sym name k.now)
 
-present_first : (o : Option First) (s : Bool) (v : First) → (s ≡ true → is_some o ≡ true) → o ≡ option_or o (cond s (Some v) None)
-present_first (Some w) s v present = refl
-present_first None true v present = let e = present refl in cc
-present_first None false v present = refl
+put_back : (t : Bool) (v earlier : First) (o : Option First) → (t ≡ true → o ≡ Some earlier)
+    → cond {A = Option First} t (Some earlier) (cond t (Some v) o) ≡ option_or o (cond t (Some v) None)
+put_back true v earlier o there = rw (there refl) refl
+put_back false v earlier o there = sym (or_none o)
 
--- an entry that was there
-pub kept-lookup : (es : List (Bor (List ℕ) × First)) (k : List ℕ) (v : First) → is_some (lookup (λ key. is_eq (slice_cmp nat_cmp k key.now)) es) ≡ true
-    → (name : List ℕ) → lookup (λ key. is_eq (slice_cmp nat_cmp name key.now)) es
-    ≡ option_or (lookup (λ key. is_eq (slice_cmp nat_cmp name key.now)) es) (cond (bytes_eq k name) (Some v) None)
-kept-lookup es k v present name =
-    present_first (found name es) (bytes_eq k name) v (λ e. ap (λ (x : List ℕ). is_some (found x es)) (sym ((bytes_eq-Decides k name).0 e)) ∙ present)
+-- an entry that was there, which another one replaced before it was put back
+pub restored-lookup : (es between new : List (Bor (List ℕ) × First)) (k : Bor (List ℕ)) (v earlier : First)
+    → between ≡ insert_entry (λ x y. slice_cmp nat_cmp x.now y.now) es k v → new ≡ insert_entry (λ x y. slice_cmp nat_cmp x.now y.now) between k earlier
+    → lookup (λ key. is_eq (slice_cmp nat_cmp k.now key.now)) es ≡ Some earlier
+    → (name : List ℕ) → lookup (λ key. is_eq (slice_cmp nat_cmp name key.now)) new
+    ≡ option_or (lookup (λ key. is_eq (slice_cmp nat_cmp name key.now)) es) (cond (bytes_eq k.now name) (Some v) None)
+restored-lookup es between new k v earlier replaced restored there name =
+    ap (found name) restored ∙ insert-lookup name between k earlier
+    ∙ ap (λ x. cond (bytes_eq name k.now) (Some earlier) x) (ap (found name) replaced ∙ insert-lookup name es k v)
+    ∙ put_back (bytes_eq name k.now) v earlier (found name es) (λ e. ap (λ (x : List ℕ). found x es) ((bytes_eq-Decides name k.now).0 e) ∙ there)
+    ∙ ap (λ t. option_or (found name es) (cond t (Some v) None)) (bytes_eq-sym name k.now)
 
 -- first labels
 
@@ -215,13 +220,56 @@ before_from k n (i ∷ is) name (suc m) =
 pub before-first : (items : List Item) (name : List ℕ) (m : ℕ) → list_any (is_label name) (take m items) ≡ before_by m (first_from 0 0 items name)
 before-first items name m = let place : m + 0 ≡ m = omega arith in before_from 0 0 items name m ∙ ap (λ x. before_by x (first_from 0 0 items name)) place
 
+-- the item at a place, and those behind it
+pub drop-map_seen : (items : List KeptItem) (n : ℕ) (d : KeptItem) → n < length items → drop n (map seen items) ≡ seen (get_or items n d) ∷ drop (n + 1) (map seen items)
+drop-map_seen items n d within =
+    let here : drop n items ≡ get_or items n d ∷ drop (n + 1) items = rw (add-one, drop-cons items n d) refl in
+    drop-map seen n items ∙ ap (map seen) here ∙ ap (λ (x : List Item). seen (get_or items n d) ∷ x) (sym (drop-map seen (n + 1) items))
+
+first_head : (items : List Item) (i j : Item) (later rest : List Item) → items ≡ i ∷ later → items ≡ j ∷ rest → i ≡ j
+first_head items i j later rest one two = let same : ◌≡◌ {A = List Item} (i ∷ later) (j ∷ rest) = sym one ∙ two in cc
+
+-- a label whose name no label before it has
+first_there : (items : List Item) (place insns : ℕ) (i : Item) (later : List Item) (name : List ℕ) (old : Option First) → drop place items ≡ i ∷ later → is_label name i ≡ true
+    → old ≡ None → option_or old (first_from place insns (drop place items) name) ≡ first_from 0 0 items name → list_any (is_label name) (take place items) ≡ false
+unfolding first_from
+first_there items place insns i later name old there named none all =
+    let found : first_from 0 0 items name ≡ Some (record { item = place; insns = insns }) =
+    sym all ∙ ap (λ o. option_or o (first_from place insns (drop place items) name)) none
+    ∙ ap (λ (x : List Item). first_from place insns x name) there
+    ∙ ap (λ t. cond t (Some (record { item = place; insns = insns })) (first_from (place + 1) (insns + count_of i) later name)) named in
+    before-first items name place ∙ ap (before_by place) found ∙ le-ltb place place (omega arith)
+
+-- one item more, whose label's name none before it has
+pub distinct-next : (body : List KeptItem) (place insns distinct : ℕ) (d : KeptItem) (old : List ℕ → Option First) → place < length body → distinct ≡ place
+    → ((name : List ℕ) → is_label name (seen (get_or body place d)) ≡ true → old name ≡ None)
+    → ((name : List ℕ) → option_or (old name) (first_from place insns (drop place (map seen body)) name) ≡ first_from 0 0 (map seen body) name)
+    → AreDistinct distinct (map seen body) → AreDistinct (place + 1) (map seen body)
+distinct-next body place insns distinct d old within all_so_far new all before name p i later less there named =
+    let items = map seen body in
+    elim (cases_lt p place) [
+      | inl earlier ↦ before name p i later (omega (arith, all_so_far)) there named
+      | inr here ↦
+          let same : p ≡ place = omega arith in
+          let place_of : drop place items ≡ i ∷ later = ap (λ n. drop n items) (sym same) ∙ there in
+          let item : seen (get_or body place d) ≡ i = first_head (drop place items) (seen (get_or body place d)) i (drop (place + 1) items) later (drop-map_seen body place d within) place_of in
+          let is_new : old name ≡ None = new name (ap (is_label name) item ∙ named) in
+          ap (λ n. list_any (is_label name) (take n items)) same ∙ first_there items place insns i later name (old name) place_of named is_new (all name)
+    ]
+
+-- a label that is known to be the first of its name
+pub known-first : (body : List KeptItem) (place distinct : ℕ) (item : KeptItem) (name : List ℕ) → place < length body → AreDistinct distinct (map seen body) → place < distinct
+    → get_or body place item ≡ item → is_label name (seen item) ≡ true → list_any (is_label name) (take place (map seen body)) ≡ false
+known-first body place distinct item name within before less there named =
+    before name place (seen (get_or body place item)) (drop (place + 1) (map seen body)) less (drop-map_seen body place item within) (ap (λ x. is_label name (seen x)) there ∙ named)
+
 label_no_code : (name : List ℕ) (i : Item) → is_label name i ≡ true → is_code i ≡ false
 label_no_code name (Label n k) h = refl
 label_no_code name (Statement x k) h = cc
 
 any_by_count : (n m : ℕ) (is : List Item) (t : Bool) → list_any is_code is ≡ t → m ≡ n + count_by is_code is → t ≡ ltb n m
 any_by_count n m is true some whole = sym (lt-ltb n m (omega (arith, any-counted is_code is some)))
-any_by_count n m is false none whole = sym (le-ltb n m (omega (arith, none-counted is_code is none)))
+any_by_count n m is false none whole = sym (le-ltb n m (omega (arith, count_by-none is_code is none)))
 
 target_from_first : (k n m : ℕ) (items : List Item) (name : List ℕ) → m ≡ n + count_by is_code items → target_from n items name ≡ target_by m (first_from k n items name)
 unfolding target_from first_from
@@ -241,12 +289,6 @@ pub target-first : (items : List Item) (name : List ℕ) → target_of items nam
 unfolding target_of
 target-first items name = target_from_first 0 0 (count_by is_code items) items name (omega arith)
 
--- the item at a place, and those behind it
-pub items-from : (items : List KeptItem) (n : ℕ) (d : KeptItem) → n < length items → drop n (map seen items) ≡ seen (get_or items n d) ∷ drop (n + 1) (map seen items)
-items-from items n d within =
-    let here : drop n items ≡ get_or items n d ∷ drop (n + 1) items = rw (add-one, drop-cons items n d) refl in
-    drop-map seen n items ∙ ap (map seen) here ∙ ap (λ (x : List Item). seen (get_or items n d) ∷ x) (sym (drop-map seen (n + 1) items))
-
 -- a turn of the loop that gathers first labels
 pub places-next : (body : List KeptItem) (place insns count : ℕ) (d : KeptItem) (old new all : List ℕ → Option First) → count ≡ count_of (seen (get_or body place d))
     → place < length body
@@ -257,7 +299,7 @@ places-next body place insns count d old new all counted within added before nam
     let i : Item = seen (get_or body place d) in
     ap (λ n. option_or (new name) (first_from (place + 1) (insns + n) (drop (place + 1) (map seen body)) name)) counted
     ∙ firsts-next place insns i (drop (place + 1) (map seen body)) (old name) (new name) name (added name)
-    ∙ ap (λ (x : List Item). option_or (old name) (first_from place insns x name)) (sym (items-from body place d within))
+    ∙ ap (λ (x : List Item). option_or (old name) (first_from place insns x name)) (sym (drop-map_seen body place d within))
     ∙ before name
 
 count_of-le : (i : Item) → count_of i ≤ 1
@@ -268,7 +310,7 @@ pub counts-next : (body : List KeptItem) (place insns count : ℕ) (d : KeptItem
     → (insns + count + count_by is_code (drop (place + 1) (map seen body)) ≡ count_by is_code (map seen body)) × (insns + count ≤ place + 1)
 counts-next body place insns count d counted within before few =
     let i : Item = seen (get_or body place d) in
-    let here : count_by is_code (drop place (map seen body)) ≡ count_by is_code (i ∷ drop (place + 1) (map seen body)) = ap (count_by is_code) (items-from body place d within) in
+    let here : count_by is_code (drop place (map seen body)) ≡ count_by is_code (i ∷ drop (place + 1) (map seen body)) = ap (count_by is_code) (drop-map_seen body place d within) in
     (omega (arith, count-cons is_code i (drop (place + 1) (map seen body))), omega (arith, count_of-le i))
 
 -- no items are left
@@ -307,8 +349,3 @@ last-before lines body after ending more line result is number none less =
     ap (λ n. list_any (λ i. eqb (line_of i) n) (map seen body)) (sym number) ∙ none in
     less ∙ ap (λ n. n - 1) number
     ∙ sym (ap (λ (x : List KeptItem). last_line lines (map seen body) (map seen x)) is ∙ ap (λ t. cond t (line_of (seen ending)) (line_of (seen ending) - 1)) alone)
-
--- nothing is found where a test says so
-pub none_kept : (o : Option First) → is_some o ≡ false → o ≡ None
-none_kept None h = refl
-none_kept (Some first) h = cc

@@ -1,18 +1,18 @@
 -- What is read of a body is right: its instructions, or its first fault.
-use Rattle.std.proofs.Common.{◌≡◌, ℕ, ◌+◌, ◌<◌, ◌≤◌, Bool, true, false, cond, ltb, not, ◌||◌, ◌⊎◌, inl, inr, List, [], ◌∷◌, ◌++◌, Result, Ok, Err, refl, sym, ap, ◌∙◌, subst, arith}
+use Rattle.std.proofs.Common.{◌≡◌, ℕ, ◌+◌, ◌<◌, ◌≤◌, Bool, true, false, cond, ltb, ◌⊎◌, inl, inr, List, [], ◌∷◌, ◌++◌, Result, Ok, Err, refl, sym, ap, ◌∙◌, subst, arith}
 use Rattle.std.specs.List.{list_any, count_by, filter, AllZip}
 use Rattle.std.proofs.lemmas.Bool.{both_ways, ltb-true, ltb-false}
-use Rattle.align_base.specs.Firsts.{◌>>=◌, all_of, HasFault, IsFirst}
-use Rattle.align_base.proofs.FirstFaults.{IsItem, AreAll, IsOutcome, ComesFirst, all-outcome, first-once}
+use Rattle.align_base.specs.Firsts.{◌>>=◌, HasFault}
+use Rattle.align_base.proofs.FirstFaults.{IsItem, AreAll, IsOutcome, ComesFirst, all-outcome}
 use Rattle.insn_table.specs.declared.insn.Insn.{Insn}
 use Rattle.text_lines.specs.declared.refusal.ReadKind.{ReadKind}
-use Rattle.text_lines.specs.declared.refusal.ReadKind.TheVariants.{TwiceLabel, DataInBody, UnknownInstruction, UnknownLabel, TooManyInsns}
+use Rattle.text_lines.specs.declared.refusal.ReadKind.TheVariants.{TwiceLabel, DataInBody, TooManyInsns}
 use Rattle.text_lines.specs.Lines.{Item, Label, Statement}
 use Rattle.text_lines.specs.Kinds.{rank, line_number}
 use Rattle.text_lines.specs.Statements.{IsStatement, Reads}
 use Rattle.text_lines.proofs.TextItems as order
 use Rattle.function_body.specs.Body.{is_label, is_directive, is_code}
-use Rattle.function_body.specs.Faults.{Fault, fault, is_data, IsFault, Precedes, HasBodyFault, IsFirstFault}
+use Rattle.function_body.specs.Faults.{Fault, fault, is_data, IsFault, Precedes}
 use Rattle.function_body.specs.Functions.{Spells, AreInsns}
 use Rattle.function_body.specs.Reading.{at_line, counted, item_of, insns_of}
 

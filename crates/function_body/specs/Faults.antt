@@ -14,6 +14,7 @@ pub record Fault : Type 0 where
   pub line : ℕ
   pub kind : ReadKind
 
+-- the fault of this kind on this line
 abbrev pub fault : ℕ → ReadKind → Fault
 fault line kind = record { line = line; kind = kind }
 
@@ -25,6 +26,7 @@ data_words =
     ∷ codes ".space" ∷ codes ".fill"
     ∷ codes ".float" ∷ codes ".double" ∷ []
 
+-- a directive whose word is one of these
 unfoldable pub is_data : List ℕ → Bool
 is_data x = list_any (λ word. bytes_eq word (prefix_of is_solid x)) data_words
 

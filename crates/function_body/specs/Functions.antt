@@ -1,8 +1,7 @@
 -- The function that the items of a text spell, or why they spell none. IsBad and IsInsn say what the texts of single
 -- instructions are, where labels lead as their first argument says.
-use Rattle.std.specs.Prelude.{◌≡◌, ℕ, ◌+◌, ◌-◌, ◌==◌, Bool, true, false, if◌then◌else◌, List, [], ◌∷◌, length, slice_get, Some}
+use Rattle.std.specs.Prelude.{◌≡◌, ℕ, ◌-◌, ◌==◌, false, if◌then◌else◌, List, [], ◌∷◌, length, slice_get, Some}
 use Rattle.std.specs.List.{list_any, filter, AllZip}
-use Rattle.align_base.specs.declared.op.Op.{Op}
 use Rattle.insn_table.specs.declared.insn.Insn.{Insn}
 use Rattle.insn_table.specs.Closed.{IsLeaving}
 use Rattle.text_lines.specs.declared.refusal.ReadKind.{ReadKind}

@@ -34,6 +34,7 @@ unfoldable pub extent_of : List ℕ → List Item → Option (List Item × List 
 extent_of name [] = None
 extent_of name (i ∷ is) = if is_label name i then Some (body_split name (i ∷ is)) else extent_of name is
 
+-- how many instructions an item is
 abbrev pub count_of : Item → ℕ
 count_of i = if is_code i then 1 else 0
 
@@ -68,6 +69,7 @@ item_of r before (Statement x k) =
 abbrev pub insns_of : (List ℕ → ℕ → Result Insn ReadKind) → List Item → Result (List Insn) Fault
 insns_of r body = all_of (item_of r) [] body
 
+-- an operation behind which the next instruction is not run
 abbrev pub is_leaving : Op → Bool
 is_leaving Ret = true
 is_leaving Jmp = true

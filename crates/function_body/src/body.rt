@@ -59,7 +59,7 @@ pub fn is_data(text: &[u8]) -> bool
 }
 
 /// Whether the item is a label of this name.
-fn is_label(name: &[u8], item: &Item<'_>) -> bool
+pub(crate) fn is_label(name: &[u8], item: &Item<'_>) -> bool
     ensures { result ≡ is_label name.now (seen item.now) }
 {
     match item {

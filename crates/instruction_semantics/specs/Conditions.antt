@@ -8,6 +8,7 @@ use Rattle.align_base.specs.declared.op.Flags.{Flags}
 use Rattle.instruction_semantics.specs.Words.{bit}
 use Rattle.instruction_semantics.specs.Exprs.{Expr, Leaf, Two, Not, Or, Xor, value}
 
+-- the flag of this number: carry, parity, zero, sign and overflow from 0 on
 abbrev pub flag_at : Flags → ℕ → Option Bool
 flag_at f zero = f.cf
 flag_at f (suc zero) = f.pf
@@ -19,6 +20,7 @@ flag_at f (suc (suc (suc (suc i)))) = f.of
 abbrev pub is_less : Expr
 is_less = Two Xor 1 (Leaf 3) (Leaf 4)
 
+-- a condition as an expression over the flags' numbers
 abbrev pub cond_expr : Cond → Expr
 cond_expr conds.E = Leaf 2
 cond_expr conds.Ne = Not 1 (Leaf 2)

@@ -15,11 +15,13 @@ pub data Operator : Type 0 where
   Below : Operator
   SignedBelow : Operator
 
+-- how a word is shifted
 pub data Shift : Type 0 where
   Left : Shift
   Right : Shift
   Signed : Shift
 
+-- an expression over words, which are leaves with numbers
 pub data Expr : Type 0 where
   Leaf : ℕ → Expr  -- the word of this number
   Number : ℕ → ℕ → Expr  -- w bits, the number
@@ -31,6 +33,7 @@ pub data Expr : Type 0 where
   Extended : ℕ → ℕ → Expr → Expr  -- from m bits to n by the sign
   Choice : Expr → Expr → Expr → Expr  -- the second where the first is 1, else the third
 
+-- the value of an operator at two words of w bits
 abbrev pub operator_value : Operator → ℕ → ℕ → ℕ → ℕ
 operator_value Plus w a b = words.plus w a b
 operator_value Minus w a b = words.minus w a b
@@ -42,6 +45,7 @@ operator_value Equal w a b = words.equal a b
 operator_value Below w a b = words.below a b
 operator_value SignedBelow w a b = words.signed_below w a b
 
+-- a word of w bits, shifted by k
 abbrev pub shift_value : Shift → ℕ → ℕ → ℕ → ℕ
 shift_value Left w a k = words.left_shift w a k
 shift_value Right w a k = words.right_shift a k

@@ -8,6 +8,7 @@ use Rattle.align_base.specs.declared.op.Op.TheVariants as ops
 use Rattle.instruction_semantics.specs.Exprs.{Expr, Leaf, Number, Two, Not, Cut, And, Xor, Equal, Below, value}
 use Rattle.instruction_semantics.specs.Rows.{computed}
 
+-- what an operation does to a flag: keeps it, leaves it unset, or sets it to the value of an expression
 pub data Rule : Type 0 where
   Keeps : Rule
   Unsets : Rule
@@ -17,9 +18,11 @@ pub data Rule : Type 0 where
 abbrev pub top_of : ℕ → Expr → Expr
 top_of w x = Cut x (w - 1) 1
 
+-- whether the result is 0
 abbrev pub is_zero : ℕ → Expr
 is_zero w = Two Equal w (Leaf 0) (Number w 0)
 
+-- the result's highest bit
 abbrev pub is_negative : ℕ → Expr
 is_negative w = top_of w (Leaf 0)
 
@@ -36,6 +39,7 @@ is_even = Not 1 (parity_bit 7)
 abbrev pub sum_carry : ℕ → Expr
 sum_carry w = Two Below w (Leaf 0) (Leaf 1)
 
+-- a signed sum overflows where the sign of the result is that of neither operand
 abbrev pub sum_overflow : ℕ → Expr
 sum_overflow w = top_of w (Two And w (Two Xor w (Leaf 1) (Leaf 0)) (Two Xor w (Leaf 2) (Leaf 0)))
 
@@ -43,6 +47,7 @@ sum_overflow w = top_of w (Two And w (Two Xor w (Leaf 1) (Leaf 0)) (Two Xor w (L
 abbrev pub difference_borrow : ℕ → Expr
 difference_borrow w = Two Below w (Leaf 1) (Leaf 2)
 
+-- a signed difference overflows where the operands' signs differ and the result has not the left one's
 abbrev pub difference_overflow : ℕ → Expr
 difference_overflow w = top_of w (Two And w (Two Xor w (Leaf 1) (Leaf 2)) (Two Xor w (Leaf 1) (Leaf 0)))
 
@@ -50,6 +55,7 @@ difference_overflow w = top_of w (Two And w (Two Xor w (Leaf 1) (Leaf 2)) (Two X
 abbrev pub left_shift_carry : ℕ → ℕ → Expr
 left_shift_carry w k = Cut (Leaf 1) (w - k) 1
 
+-- the same of a shift to the right
 abbrev pub right_shift_carry : ℕ → Expr
 right_shift_carry k = Cut (Leaf 1) (k - 1) 1
 
@@ -57,6 +63,7 @@ right_shift_carry k = Cut (Leaf 1) (k - 1) 1
 abbrev pub at_one : ℕ → Expr → Rule
 at_one k x = if k == 1 then Sets x else Unsets
 
+-- the carry flag
 abbrev pub carry_rule : Op → ℕ → ℕ → Rule
 carry_rule ops.Add w k = Sets (sum_carry w)
 carry_rule ops.Sub w k = Sets (difference_borrow w)
@@ -72,6 +79,7 @@ carry_rule ops.Sar w k = Sets (right_shift_carry k)
 carry_rule ops.Imul w k = Unsets
 carry_rule _ w k = Keeps
 
+-- the overflow flag
 abbrev pub overflow_rule : Op → ℕ → ℕ → Rule
 overflow_rule ops.Add w k = Sets (sum_overflow w)
 overflow_rule ops.Inc w k = Sets (sum_overflow w)
@@ -113,12 +121,14 @@ abbrev pub left_operand : Op → ℕ → ℕ
 left_operand ops.Neg a = 0
 left_operand _ a = a
 
+-- what stands as the right operand
 abbrev pub right_operand : Op → ℕ → ℕ → ℕ
 right_operand ops.Inc a b = 1
 right_operand ops.Dec a b = 1
 right_operand ops.Neg a b = a
 right_operand _ a b = b
 
+-- the leaves of the flags' expressions: the result, the left and the right operand
 abbrev pub flag_leaves : ℕ → ℕ → ℕ → ℕ → ℕ
 flag_leaves r a b zero = r
 flag_leaves r a b (suc zero) = a

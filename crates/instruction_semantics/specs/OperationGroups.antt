@@ -11,6 +11,7 @@ is_bitwise ops.Or = true
 is_bitwise ops.Xor = true
 is_bitwise _ = false
 
+-- shifts
 abbrev pub is_shift : Op → Bool
 is_shift ops.Shl = true
 is_shift ops.Shr = true

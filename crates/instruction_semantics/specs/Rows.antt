@@ -6,6 +6,7 @@ use Rattle.align_base.specs.declared.op.Op.{Op}
 use Rattle.align_base.specs.declared.op.Op.TheVariants as ops
 use Rattle.instruction_semantics.specs.Exprs.{Expr, Leaf, Number, Two, Not, Shifted, Joined, Cut, Extended, Choice, Plus, Minus, Times, And, Or, Xor, Left, Right, Signed, value}
 
+-- what an operation computes at w bits, of a shift by k
 abbrev pub row_expr : Op → ℕ → ℕ → Expr
 row_expr ops.Mov w k = Leaf 1
 row_expr ops.Movabs w k = Leaf 1

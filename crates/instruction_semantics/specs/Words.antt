@@ -10,9 +10,11 @@ bit false = 0
 abbrev pub plus : ℕ → ℕ → ℕ → ℕ
 plus w a b = (a + b) % 2 ^ w
 
+-- the difference, modulo 2^w
 abbrev pub minus : ℕ → ℕ → ℕ → ℕ
 minus w a b = (a + (2 ^ w - b)) % 2 ^ w
 
+-- the product, modulo 2^w
 abbrev pub times : ℕ → ℕ → ℕ → ℕ
 times w a b = a * b % 2 ^ w
 
@@ -40,9 +42,11 @@ sign_extension m n a = top m a * (2 ^ n - 2 ^ m) + a
 abbrev pub left_shift : ℕ → ℕ → ℕ → ℕ
 left_shift w a k = a * 2 ^ k % 2 ^ w
 
+-- shifted to the right, with zeros from the left
 abbrev pub right_shift : ℕ → ℕ → ℕ
 right_shift a k = a / 2 ^ k
 
+-- shifted to the right, with copies of the highest bit from the left
 abbrev pub signed_shift : ℕ → ℕ → ℕ → ℕ
 signed_shift w a k = sign_extension (w - k) w (a / 2 ^ k)
 
@@ -50,9 +54,11 @@ signed_shift w a k = sign_extension (w - k) w (a / 2 ^ k)
 abbrev pub equal : ℕ → ℕ → ℕ
 equal a b = bit (a == b)
 
+-- 1 where a is below b as a whole number
 abbrev pub below : ℕ → ℕ → ℕ
 below a b = bit (nat_lt a b)
 
+-- 1 where a is below b as a signed number
 abbrev pub signed_below : ℕ → ℕ → ℕ → ℕ
 signed_below w a b = bit (nat_lt (plus w a (2 ^ (w - 1))) (plus w b (2 ^ (w - 1))))
 

@@ -4,6 +4,7 @@ use Rattle.align_base.specs.declared.op.Flags.{Flags}
 use Rattle.instruction_semantics.specs.Exprs.{value}
 use Rattle.instruction_semantics.specs.FlagRules.{flag_leaves, is_even, is_negative, is_zero}
 
+-- parity, zero and sign of a result, with this carry and this overflow
 abbrev pub result_flags : ℕ → ℕ → Option Bool → Option Bool → Flags
 result_flags w r carry overflow = record {
   cf = carry;

@@ -67,7 +67,8 @@ fn of_difference(width: u32, r: u64, carry: Option<bool>, a: u64, b: u64) -> Fla
 fn of_left_shift(width: u32, r: u64, a: u64, count: u64) -> Flags
     requires { (0 < count) × (count < width) × (width < 65) }
     ensures { result ≡ result_flags width r (Some (value (flag_leaves r a count) (left_shift_carry width count) == 1))
-        (if count == 1 then Some (value (flag_leaves r a count) (Two Xor 1 (top_of width (Leaf 0)) (left_shift_carry width count)) == 1) else None) }
+        (if count == 1
+        then Some (value (flag_leaves r a count) (Two Xor 1 (top_of width (Leaf 0)) (left_shift_carry width count)) == 1) else None) }
 {
     let out = width as u64 - count;
     let sign_changed = is_bit_set((r >> (width - 1)) ^ (a >> out), 0);

@@ -14,13 +14,13 @@ use Rattle.machine.specs.Operands.{operand}
 use Rattle.machine.specs.Straight.{plain_result, regs_after, regs_through, value_at, regs_with}
 
 -- an immediate is below 2^64
-pub signed-below : (v : ℕ) → IsSignedWord v → v < 2 ^ 64
-signed-below v (inl small) = omega arith
-signed-below v (inr large) = large.1
+pub IsSignedWord-below : (v : ℕ) → IsSignedWord v → v < 2 ^ 64
+IsSignedWord-below v (inl small) = omega arith
+IsSignedWord-below v (inr large) = large.1
 
 value-below : (o : Operand) (regs : List ℕ) → IsSource o → AreRegs regs → value_at regs o < 2 ^ 64
 value-below (Reg n w) regs is all = all.below n
-value-below (Imm v) regs is all = signed-below v is
+value-below (Imm v) regs is all = IsSignedWord-below v is
 value-below (Mem base index scale disp) regs is all = absurd is
 value-below (Vec n w) regs is all = absurd is
 value-below (Pool n) regs is all = absurd is

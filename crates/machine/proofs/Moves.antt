@@ -14,7 +14,7 @@ use Rattle.runs.specs.Run.{Step, Goes}
 use Rattle.machine.specs.Step.{destination_value, insn_step, source_value, step_of}
 use Rattle.machine.specs.Straight.{regs_after}
 use Rattle.machine.proofs.Families.{step_at}
-use Rattle.machine.proofs.Keeping.{signed-below}
+use Rattle.machine.proofs.Keeping.{IsSignedWord-below}
 
 -- the state after a plain move
 abbrev pub moved : List ℕ → Insn → Machine → Machine
@@ -61,7 +61,7 @@ immediate-moves pool _ vex line a m v s op small all = absurd op
 source-moves : (pool : List ℕ) (o : Op) (vex : Bool) (line m v : ℕ) (source : Operand) (s : Machine) → IsMoveOp o → IsSource source → AreRegs s.regs
     → insn_step pool (move_by o vex line source (Reg m v)) s ≡ Goes (moved pool (move_by o vex line source (Reg m v)) s)
 source-moves pool o vex line m v (Reg n w) s op is all = register-moves pool o vex line n w m v s op all
-source-moves pool o vex line m v (Imm a) s op is all = immediate-moves pool o vex line a m v s op (signed-below a is) all
+source-moves pool o vex line m v (Imm a) s op is all = immediate-moves pool o vex line a m v s op (IsSignedWord-below a is) all
 source-moves pool o vex line m v (Mem base index scale disp) s op is all = absurd is
 source-moves pool o vex line m v (Vec n w) s op is all = absurd is
 source-moves pool o vex line m v (Pool n) s op is all = absurd is

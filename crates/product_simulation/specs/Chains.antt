@@ -8,6 +8,7 @@ pub record Link (F : Type 0) : Type 0 where
   pub bound : ℕ
   pub next : F
 
+-- the bounds of the links
 abbrev pub bounds_of : {F : Type 0} → List (Link F) → List ℕ
 bounds_of links = map (λ link. link.bound) links
 

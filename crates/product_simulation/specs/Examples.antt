@@ -23,6 +23,7 @@ endless_step s = Goes s
 abbrev pub node_at : (left right rank : ℕ) → PNode
 node_at left right rank = record { left = left; right = right; invs = []; rank_left = rank; rank_right = 0 }
 
+-- an edge with these paths
 abbrev pub edge_of : (from to : ℕ) → (left right : List ℕ) → PEdge
 edge_of from to left right = record { from = from; to = to; left = left; right = right }
 
@@ -42,9 +43,11 @@ pub record AtPlaces (left right a b : ℕ) : Type 0 where
 abbrev pub AnyEnd : ℕ → ℕ → Type 0
 AnyEnd a b = Unit {0}
 
+-- stands at place 0
 abbrev pub IsAtEntry : ℕ → Type 0
 IsAtEntry s = s ≡ 0
 
+-- which places are related at the nodes of the product in which one side waits
 abbrev pub WaitingRelated : ℕ → ℕ → ℕ → Type 0
 WaitingRelated zero a b = AtPlaces 0 0 a b
 WaitingRelated (suc zero) a b = AnyEnd a b
@@ -56,12 +59,15 @@ WaitingRelated (suc (suc (suc (suc k)))) a b = ⊥
 abbrev pub standing_product : List PEdge → Product
 standing_product edges = record { nodes = node_at 0 0 1 ∷ node_at 0 0 0 ∷ node_at 0 0 0 ∷ []; edges = edges }
 
+-- the edge from the entry, along which the right function goes on alone
 abbrev pub entry_edge : PEdge
 entry_edge = edge_of 0 2 [] (0 ∷ [])
 
+-- the edge from node 2 to itself, along which the right function goes on alone
 abbrev pub circle_edge : PEdge
 circle_edge = edge_of 2 2 [] (0 ∷ [])
 
+-- which places are related at the nodes of that product
 abbrev pub StandingRelated : ℕ → ℕ → ℕ → Type 0
 StandingRelated zero a b = AtPlaces 0 0 a b
 StandingRelated (suc zero) a b = AnyEnd a b

@@ -10,6 +10,7 @@ fn texts_that_are_no_utf8(rt: HostRuntime) {
     let cases = [
         refused_at(b"\xff", 1, NotUtf8),
         refused_at(b"f:\n ret # \xff\n", 2, NotUtf8),
+        refused_at(b"f:\n bogus \xff .byte 1\n .byte 1", 2, NotUtf8),
         refused_at(b"f:\n bogus\n ret # \xc3\n\n\xff", 3, NotUtf8),
         refused_at(b"\n\nf: ret\n# \xe2\x82", 4, NotUtf8),
     ];
@@ -72,7 +73,11 @@ fn unknown_instructions(rt: HostRuntime) {
         refused_at(b"f:\n mov %rax,%rbx\n ret", 2, UnknownInstruction),
         refused_at(b"f:\n rep retq\n ret", 2, UnknownInstruction),
         refused_at(b"f:\n rep ret %rax\n ret", 2, UnknownInstruction),
+        refused_at(b"f:\n rep movsb\n ret", 2, UnknownInstruction),
         refused_at(b"f:\n nopw 0(%rax)\n ret", 2, UnknownInstruction),
+        refused_at(b"f:\n nopl 0(%rax)\n ret", 2, UnknownInstruction),
+        refused_at(b"f:\n jmpq f\n ret", 2, UnknownInstruction),
+        refused_at(b"f:\n seteb %al\n ret", 2, UnknownInstruction),
         refused_at(b"f:\n ret; ret", 2, UnknownInstruction),
     ];
     assert_eq!(rt; first_other(rt.alloc(), &cases), cases.len());
@@ -85,6 +90,9 @@ fn operands_in_a_pool(rt: HostRuntime) {
         refused_at(b"f:\n addl a+4(%rip),%ah\n ret", 2, PoolRefused),
         refused_at(b"f:\n cmpl $99999999999,a-18( %rip )\n ret", 2, PoolRefused),
         refused_at(b"f:\n leaq .LC0(%rip),%rax\n jmp .L9", 2, PoolRefused),
+        refused_at(b"f:\n cmpl $1,.LC0(%rip)\n .byte 1", 2, PoolRefused),
+        refused_at(b"f:\n testb $1,a-4(%rip)\n ret", 2, PoolRefused),
+        refused_at(b"f:\n ret\n addl a+65536(%rip),%eax", 3, PoolRefused),
     ];
     assert_eq!(rt; first_other(rt.alloc(), &cases), cases.len());
 }
@@ -107,6 +115,7 @@ fn operands_that_no_form_takes(rt: HostRuntime) {
         refused_at(b"f:\n movq 8(%rip),%rax\n ret", 2, BadOperand),
         refused_at(b"f:\n movq a+0x4(%rip),%rax\n ret", 2, BadOperand),
         refused_at(b"f:\n movq 2147483648(%rax),%rax\n ret", 2, BadOperand),
+        refused_at(b"f:\n movq -2147483649(%rax),%rax\n ret", 2, BadOperand),
         refused_at(b"f:\n movq (%rdi,%rcx,0x4),%rax\n ret", 2, BadOperand),
         refused_at(b"f:\n movq (%rdi,%rcx,),%rax\n ret", 2, BadOperand),
         refused_at(b"f:\n movq (%rax,,1),%rax\n ret", 2, BadOperand),
@@ -114,7 +123,9 @@ fn operands_that_no_form_takes(rt: HostRuntime) {
         refused_at(b"f:\n movq (%rax),(%rbx)\n ret", 2, BadOperand),
         refused_at(b"f:\n jmp $5\n ret", 2, BadOperand),
         refused_at(b"f:\n nop %rax\n ret", 2, BadOperand),
+        refused_at(b"f:\n endbr64 %rax\n ret", 2, BadOperand),
         refused_at(b"f:\n ret $8\n", 2, BadOperand),
+        refused_at(b"f:\n retq %rax\n", 2, BadOperand),
     ];
     assert_eq!(rt; first_other(rt.alloc(), &cases), cases.len());
 }
@@ -147,6 +158,7 @@ fn labels_that_lead_nowhere(rt: HostRuntime) {
         refused_at(b"f:\n jmp .L1\n.L1:\n .p2align 4\n", 2, UnknownLabel),
         refused_at(b"f:\n jmp g\ng:\n ret", 2, UnknownLabel),
         refused_at(b"g:\nf:\n jmp g\n ret", 3, UnknownLabel),
+        refused_at(b"g: f: jmp g\n ret", 1, UnknownLabel),
         refused_at(b"f:\n jmp $foo\n bogus", 2, UnknownLabel),
         refused_at(b"f:\n jne .L1\n.L1:\n bogus", 4, UnknownInstruction),
     ];

@@ -1,6 +1,7 @@
 //! Tests of the reader of function text. Expected values follow from the rules by hand.
 //!
-//! Whole texts go through `att_reader::read_function`; there is nothing else here.
+//! Whole texts go through `att_reader::read_function`, and a statement through `att_statements::statement`;
+//! there is nothing else here.
 #![tactic(auto)]
 
 #[cfg(test)]
@@ -11,5 +12,7 @@ mod limits;
 mod lines;
 #[cfg(test)]
 mod reading;
+#[cfg(test)]
+mod single;
 #[cfg(test)]
 mod statements;

@@ -119,7 +119,11 @@ fn operands_are_read_as_they_are_written(rt: HostRuntime) -> Result<(), Fail> {
 #[test]
 fn loops_of_a_compiler_are_read(rt: HostRuntime) {
     let sum =
-        b"\t.file \"sum.c\"\n\t.text\n\t.p2align 4\n\t.globl f\n\t.type f, @function\nf:\n.LFB0:\n\t.cfi_startproc\n\tendbr64\n\txorl\t%eax, %eax\n\ttestq\t%rsi, %rsi\n\tje\t.L4\n\txorl\t%ecx, %ecx\n\t.p2align 4,,10\n\t.p2align 3\n.L3:\n\taddl\t(%rdi,%rcx,4), %eax\n\taddq\t$1, %rcx\n\tcmpq\t%rsi, %rcx\n\tjne\t.L3\n\tret\n\t.p2align 4,,10\n.L4:\n\tret\n\t.cfi_endproc\n.LFE0:\n\t.size\tf, .-f\n";
+        b"\t.file \"sum.c\"\n\t.text\n\t.p2align 4\n\t.globl f\n\t.type f, @function\nf:\n.LFB0:\n\
+          \t.cfi_startproc\n\tendbr64\n\txorl\t%eax, %eax\n\ttestq\t%rsi, %rsi\n\tje\t.L4\n\
+          \txorl\t%ecx, %ecx\n\t.p2align 4,,10\n\t.p2align 3\n.L3:\n\taddl\t(%rdi,%rcx,4), %eax\n\
+          \taddq\t$1, %rcx\n\tcmpq\t%rsi, %rcx\n\tjne\t.L3\n\tret\n\t.p2align 4,,10\n.L4:\n\tret\n\
+          \t.cfi_endproc\n.LFE0:\n\t.size\tf, .-f\n";
     let cases = [(sum.as_slice(), 11)];
     assert_eq!(rt; first_other_count(rt.alloc(), &cases), cases.len());
 }

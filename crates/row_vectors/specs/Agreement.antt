@@ -19,6 +19,7 @@ flag_code (Some false) = 0
 flag_code (Some true) = 1
 flag_code None = 2
 
+-- the five flags as numbers
 abbrev pub flag_codes : Flags → List ℕ
 flag_codes f = flag_code f.cf ∷ flag_code f.pf ∷ flag_code f.zf ∷ flag_code f.sf ∷ flag_code f.of ∷ []
 

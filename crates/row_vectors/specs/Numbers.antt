@@ -26,5 +26,6 @@ all_values (Some n ∷ more) = option_map (λ ns. n ∷ ns) (all_values more)
 abbrev pub words_of : List ℕ → List (List ℕ)
 words_of line = slice_split (λ b. b == 32) line
 
+-- the numbers of a line, where each of its words is one
 abbrev pub numbers_of : List ℕ → Option (List ℕ)
 numbers_of line = all_values (map number_of (words_of line))

@@ -48,6 +48,7 @@ has_flags ns i =
     && (nat_lt (slice_index ns (i + 2)) 3
     && (nat_lt (slice_index ns (i + 3)) 3 && nat_lt (slice_index ns (i + 4)) 3)))
 
+-- the flags of five numbers, from the i-th on
 abbrev pub flags_from : List ℕ → ℕ → Flags
 flags_from ns i = record {
   cf = flag_of (slice_index ns i);
@@ -57,6 +58,7 @@ flags_from ns i = record {
   of = flag_of (slice_index ns (i + 4));
 }
 
+-- the case of an operation, with its numbers at their places
 abbrev pub row_of : List ℕ → Op → Case
 row_of ns op =
     Row (slice_index ns 1) op (slice_index ns 2) (slice_index ns 3) (slice_index ns 4) (flags_from ns 5) (slice_index ns 10)
@@ -69,12 +71,14 @@ row_case ns =
     then option_map (row_of ns) (operation_of (slice_index ns 0) (slice_index ns 1))
     else None
 
+-- the case of a condition, of eight numbers
 abbrev pub condition_case : List ℕ → Option Case
 condition_case ns =
     if (slice_index ns 0 == 1) && has_flags ns 2
     then option_map (λ cond. Condition cond (flags_from ns 2) (slice_index ns 7)) (slice_get conditions (slice_index ns 1))
     else None
 
+-- the case that so many numbers are
 abbrev pub case_of_numbers : List ℕ → Option Case
 case_of_numbers ns = if length ns == 16 then row_case ns else (if length ns == 8 then condition_case ns else None)
 

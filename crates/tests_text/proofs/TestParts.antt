@@ -9,7 +9,7 @@ use Rattle.serde_json.specs.Find.{as_array, as_str, get}
 use Rattle.admission_text.specs.Names.{is_hex_digit, names_64, numerals}
 use Rattle.tests_text.specs.declared.shape.Kind.{Kind}
 use Rattle.tests_text.specs.declared.shape.Kind.TheVariants as kinds
-use Rattle.tests_text.specs.Shapes.{addressed, AreBytes, AreHexBytes, ArePieces, AreRegisters, AreVectors, default_byte, default_register, IsPiece, IsRegister, IsVector, is_object, member_of}
+use Rattle.tests_text.specs.Shapes.{addressed, AreBytes, AreHexBytes, ArePieces, AreRegisters, AreVectors, default_byte, default_register, IsPiece, IsRegisterValue, IsVector, is_object, member_of}
 use Rattle.tests_text.specs.Reading.{◌>>=◌, bytes_of, collected, decoded, default_vector, is_hex_text, is_object_or_none, name_at, piece_of, pieces_of, register_of, registers_of, size_of, values, vector, vector_in, vector_of, vectors_of, whole_of}
 use Rattle.tests_text.proofs.Collecting.{bind-some, collected-known, collected-only, length-values, values-at, values-only}
 use Rattle.tests_text.proofs.HexTexts.{hex-known, hex-only, length-decoded}
@@ -33,11 +33,11 @@ zero-first n = omega arith
 
 -- registers
 
-register-known : (k n : ℕ) (found : Option Data) (v : ℕ) → register_of k n found ≡ Some v → IsRegister k n found v
+register-known : (k n : ℕ) (found : Option Data) (v : ℕ) → register_of k n found ≡ Some v → IsRegisterValue k n found v
 register-known k n None v h = sym (same_Some (default_register k n) v h)
 register-known k n (Some d) v h = whole-known d v h
 
-register-only : (k n : ℕ) (found : Option Data) (v : ℕ) → IsRegister k n found v → register_of k n found ≡ Some v
+register-only : (k n : ℕ) (found : Option Data) (v : ℕ) → IsRegisterValue k n found v → register_of k n found ≡ Some v
 register-only k n None v is = ap (λ (x : ℕ). Some x) (sym is)
 register-only k n (Some d) v is = whole-only d v is
 

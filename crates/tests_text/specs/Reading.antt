@@ -9,6 +9,7 @@ use Rattle.tests_text.specs.declared.shape.Kind.TheVariants as kinds
 use Rattle.tests_text.specs.Shapes.{addressed, default_byte, default_register, is_object, member_of}
 
 infixl 10 ◌>>=◌
+-- what follows, where there is a value
 abbrev pub ◌>>=◌ : {A B : Type 0} → Option A → (A → Option B) → Option B
 o >>= f = option_and_then f o
 
@@ -31,6 +32,7 @@ unfoldable pub collected : {A : Type 0} → (ℕ → Option A) → ℕ → ℕ �
 collected f n zero = Some []
 collected f n (suc count) = f n >>= λ x. (collected f (n + 1) count >>= λ xs. Some (x ∷ xs))
 
+-- the values of f from n on, where each has one
 unfoldable pub values : (ℕ → ℕ) → ℕ → ℕ → List ℕ
 values f n zero = []
 values f n (suc count) = f n ∷ values f (n + 1) count
@@ -52,11 +54,14 @@ is_object_or_none (Some d) test = test d
 -- the registers of test k
 unfoldable pub registers_of : ℕ → Option Data → Option (List ℕ)
 registers_of k found =
-    if is_object_or_none found (is_object kinds.Registers) then collected (λ n. register_of k n (member_of found (name_at names_64 n))) 0 16 else None
+    if is_object_or_none found (is_object kinds.Registers)
+    then collected (λ n. register_of k n (member_of found (name_at names_64 n))) 0 16 else None
 
+-- a vector with these bytes
 abbrev pub vector : List ℕ → Bytes32
 vector bytes = record { bytes = bytes }
 
+-- the vector that has no entry
 abbrev pub default_vector : ℕ → ℕ → Bytes32
 default_vector k n = vector (values (default_byte k n) 0 32)
 
@@ -72,7 +77,8 @@ vector_of k n (Some d) = as_str d >>= vector_in
 -- the vector registers of test k
 unfoldable pub vectors_of : ℕ → Option Data → Option (List Bytes32)
 vectors_of k found =
-    if is_object_or_none found (is_object kinds.Vectors) then collected (λ n. vector_of k n (member_of found (name_at numerals n))) 0 16 else None
+    if is_object_or_none found (is_object kinds.Vectors)
+    then collected (λ n. vector_of k n (member_of found (name_at numerals n))) 0 16 else None
 
 -- the address and the digits of a piece of memory that ends at 2^64 at most
 unfoldable pub piece_of : Data → Option (ℕ × List ℕ)

@@ -9,10 +9,12 @@ use Rattle.tests_text.specs.declared.test.Test.{Test}
 use Rattle.tests_text.specs.declared.test.Tests.{Tests}
 use Rattle.tests_text.specs.Reading.{bytes_of, outer_of, parts_of}
 
+-- the test with these bytes of memory, where they can be read
 abbrev pub test_with : ℕ → List ℕ → List Bytes32 → Option (List (ℕ × ℕ)) → Result Test TestRefusal
 test_with k regs vecs None = Err (BadShape k)
 test_with k regs vecs (Some bytes) = Ok (record { regs = regs; vecs = vecs; bytes = bytes })
 
+-- the test with these parts, where they can be read and are not too many
 abbrev pub test_by : ℕ → Option (List ℕ × List Bytes32 × Items × ℕ) → Result Test TestRefusal
 test_by k None = Err (BadShape k)
 test_by k (Some p) = if nat_lt 65536 p.3 then Err (TooManyBytes k) else test_with k p.0 p.1 (bytes_of p.2)

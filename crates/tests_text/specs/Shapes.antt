@@ -62,15 +62,16 @@ abbrev pub default_byte : ℕ → ℕ → ℕ → ℕ
 default_byte k n i = (13 * n + 7 * i + 29 * k) % 256
 
 -- the value of register n in test k, by its member
-abbrev pub IsRegister : ℕ → ℕ → Option Data → ℕ → Type 0
-IsRegister k n None v = v ≡ default_register k n
-IsRegister k n (Some d) v = IsWhole d v
+abbrev pub IsRegisterValue : ℕ → ℕ → Option Data → ℕ → Type 0
+IsRegisterValue k n None v = v ≡ default_register k n
+IsRegisterValue k n (Some d) v = IsWhole d v
 
 -- the sixteen registers of test k, by the member `regs`
 pub record AreRegisters (k : ℕ) (found : Option Data) (regs : List ℕ) : Type 0 where
   pub named : IfSome found (λ d. is_object kinds.Registers d ≡ true)
   pub sixteen : length regs ≡ 16
-  pub each : (n : ℕ) (name : List ℕ) → slice_get names_64 n ≡ Some name → IsRegister k n (member_of found name) (slice_index regs n)
+  pub each : (n : ℕ) (name : List ℕ) → slice_get names_64 n ≡ Some name
+      → IsRegisterValue k n (member_of found name) (slice_index regs n)
 
 -- the bytes of vector register n in test k, by its member: 64 digits
 abbrev pub IsVector : ℕ → ℕ → Option Data → List ℕ → Type 0

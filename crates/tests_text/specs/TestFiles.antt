@@ -27,6 +27,7 @@ pub record Numbered : Type 0 where
   pub value : Data
   pub number : ℕ
 
+-- the values with their numbers, from k on
 abbrev pub numbered : ℕ → Items → List Numbered
 numbered k no_items = []
 numbered k (item d ds) = record { value = d; number = k } ∷ numbered (k + 1) ds

@@ -79,7 +79,8 @@ pub(crate) fn registers_of(k: u64, found: Option<&Value>) -> Option<[u64; 16]>
 // The same of an object whose members are registers, or of nothing.
 fn named_registers(k: u64, found: Option<&Value>) -> Option<[u64; 16]>
     requires { k ≤ 64 }
-    ensures { result ≡ reading.collected (λ n. reading.register_of k n (member_of (option_map (λ v. view v.now) found.entry) (reading.name_at names_64 n))) 0 16 }
+    ensures { result ≡ reading.collected (λ n. reading.register_of k n
+        (member_of (option_map (λ v. view v.now) found.entry) (reading.name_at names_64 n))) 0 16 }
 {
     let mut regs = [0; 16];
     for n in 0..16usize {

@@ -111,7 +111,8 @@ pub(crate) fn vectors_of(k: u64, found: Option<&Value>) -> Option<[Bytes32; 16]>
 // The same of an object whose members are vectors, or of nothing.
 fn named_vectors(k: u64, found: Option<&Value>) -> Option<[Bytes32; 16]>
     requires { k ≤ 64 }
-    ensures { result ≡ reading.collected (λ n. reading.vector_of k n (member_of (option_map (λ v. view v.now) found.entry) (reading.name_at numerals n))) 0 16 }
+    ensures { result ≡ reading.collected (λ n. reading.vector_of k n
+        (member_of (option_map (λ v. view v.now) found.entry) (reading.name_at numerals n))) 0 16 }
 {
     let mut vecs = [Bytes32 { bytes: [0; 32] }; 16];
     for n in 0..16usize {

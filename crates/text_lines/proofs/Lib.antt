@@ -1,3 +1,4 @@
+pub mod Searching
 pub mod Prefixes
 pub mod Trimming
 pub mod LineItems

@@ -82,8 +82,3 @@ length-lines-le (b ∷ bs) =
       | true ↦ omega (arith, length-newline (length bs) (slice_split (λ x. eqb x 10) bs) shorter)
       | false ↦ omega (arith, length-onto b (length bs) (slice_split (λ x. eqb x 10) bs) shorter)
     ]
-
--- a list before the first of two parts
-abbrev pub all_onto : List ℕ → Option (List ℕ × List ℕ) → Option (List ℕ × List ℕ)
-all_onto front None = None
-all_onto front (Some parts) = Some (front ++ parts.0, parts.1)

@@ -55,6 +55,7 @@ abbrev pub items_by : (List ℕ → List Item) → ℕ → List ℕ → Option (
 items_by behind k text None = statement_items k (trim text)
 items_by behind k text (Some found) = Label found.0 k ∷ behind found.1
 
+-- the labels of a text on line k, at most n, and then its statement
 unfoldable pub items_from : ℕ → ℕ → List ℕ → List Item
 items_from zero k text = statement_items k (trim text)
 items_from (suc n) k text = items_by (items_from n k) k text (label_at text)

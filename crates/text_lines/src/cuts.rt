@@ -5,17 +5,16 @@ ghost use Rattle.std.specs.Str.Lines.{strip_carriage_return};
 ghost use Rattle.text_lines.specs.Lines.{is_visible};
 ghost use Rattle.text_lines.specs.Cutting.{cut_at, first_line, visible_part};
 
+use memchr::memchr;
+
 /// The parts before and behind the first such byte.
-#[tactic(auto, unfolding(crate::specs::Cutting::cut_at))]
 fn cut_at(text: &[u8], byte: u8) -> Option<(&[u8], &[u8])>
     ensures { option_map (λ parts. (parts.0.now, parts.1.now)) result ≡ cut_at byte text.now }
 {
-    for (place, found) in text.iter().enumerate() {
-        if *found == byte {
-            return Some((&text[..place], &text[place + 1..]));
-        }
+    match memchr(byte, text) {
+        Some(place) => Some((&text[..place], &text[place + 1..])),
+        None => None,
     }
-    None
 }
 
 /// The line without the one carriage return at its end, if it has one.

@@ -1,4 +1,4 @@
-use Rattle.std.proofs.Common.{◌≡◌, sym, ◌∙◌, rules}
+use Rattle.std.proofs.Common.{sym, ◌∙◌, rules}
 use Rattle.function_body.proofs.CodeSteps.{last-shared, last-before}
 use Rattle.function_body.proofs.body.last_line.Goals as goal
 

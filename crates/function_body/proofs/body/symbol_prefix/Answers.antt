@@ -1,4 +1,4 @@
-use Rattle.std.proofs.Common.{◌≡◌, ◌∙◌, sym}
+use Rattle.std.proofs.Common.{◌∙◌, sym}
 use Rattle.text_lines.proofs.Prefixes.{cut-passes, cut-fails, cut-ends}
 use Rattle.function_body.specs.Body.{is_symbol_byte}
 use Rattle.function_body.proofs.body.symbol_prefix.Goals as goal

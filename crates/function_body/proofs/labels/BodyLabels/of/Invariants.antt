@@ -6,12 +6,13 @@ use Rattle.std.specs.Ordering.{nat_cmp}
 use Rattle.std.specs.Cmp.Lexicographic.{slice_cmp}
 use Rattle.text_lines.specs.Views.{seen}
 use Rattle.function_body.specs.Body.{is_code}
-use Rattle.function_body.specs.Firsts.{first_from}
+use Rattle.function_body.specs.Firsts.{AreDistinct, first_from}
 use Rattle.function_body.proofs.labels.BodyLabels.of.Given as goal
 
--- the labels so far, and then those that are left, are all
+-- the labels so far, and then those that are left, are all; among the first items no name stands twice
 abbrev pub invariant-loop-place : goal.invariant-loop-place
 invariant-loop-place l =
     ((name : List ℕ) → option_or (get_by (λ key. slice_cmp nat_cmp name key.now) l.firsts) (first_from l.place l.insns (drop l.place (map seen l.body)) name) ≡ first_from 0 0 (map seen l.body) name)
     × (l.insns + count_by is_code (drop l.place (map seen l.body)) ≡ count_by is_code (map seen l.body))
     × (l.insns ≤ l.place)
+    × AreDistinct l.distinct (map seen l.body)

@@ -1,5 +1,4 @@
-use Rattle.std.proofs.Common.{◌≡◌, sym, ap, ◌∙◌}
-use Rattle.text_lines.specs.Views.{seen}
+use Rattle.std.proofs.Common.{sym, ap, ◌∙◌}
 use Rattle.function_body.specs.Labelled.{labelled}
 use Rattle.function_body.proofs.CodeSteps.{before_by, before-first}
 use Rattle.function_body.proofs.labels.BodyLabels.stands_before.Goals as goal

@@ -1,4 +1,4 @@
-use Rattle.std.proofs.Common.{◌≡◌, sym, ap, ◌∙◌, Some}
+use Rattle.std.proofs.Common.{sym, ap, ◌∙◌, Some}
 use Rattle.function_body.specs.Labelled.{labelled}
 use Rattle.function_body.proofs.CodeSteps.{target-kept, target-inside, target-behind}
 use Rattle.function_body.proofs.labels.BodyLabelsLabels.target.Goals as goal

@@ -1,4 +1,5 @@
-use crate::statement;
+//! Single statements, read alone.
+use att_statements::statement;
 use insn_table::{Insn, Op, Operand};
 use text_lines::Labels;
 

@@ -1,0 +1,4 @@
+pub mod Bytes
+pub mod OneReport
+pub mod Pieces
+pub mod Running
