@@ -5,12 +5,12 @@
 cd "$(dirname "$0")/.." || exit 1
 PATH="$PATH:/opt/rattle/bin"
 [ "$1" = --proved ] && { proved=yes; shift; }
-folders=${1:-swapped_sum longer_way off_by_one wrong_register compiled_difference run_sum run_add_one}
+folders=${1:-swapped_sum longer_way off_by_one wrong_register compiled_difference summed_words incremented_words}
 
 # the files of a folder, in the order of the arguments
 files() {
   case $1 in
-    run_*) echo gcc.s admission tests.json ;;
+    *_words) echo gcc.s admission tests.json ;;
     *) echo left.s right.s ;;
   esac
 }
@@ -18,7 +18,7 @@ files() {
 # the arguments of a folder, one a line, where each file's name is prefixed
 arguments() {
   case $1 in
-    run_*) printf '%s\n' run "$2gcc.s" f "$2admission" "$2tests.json" ;;
+    *_words) printf '%s\n' run "$2gcc.s" f "$2admission" "$2tests.json" ;;
     *) printf '%s\n' decide "$2left.s" f "$2right.s" g ;;
   esac
 }

@@ -1,16 +1,16 @@
 -- The status that files and arguments call for, of every command: from what a report tells.
-use Rattle.std.proofs.Common.{◌≡◌, ◌⊎◌, inl, inr, ⊎_elim, ℕ, List, [], ◌∷◌, ◌++◌, Option, refl, sym, ap, subst}
+use Rattle.std.proofs.Common.{◌≡◌, ◌⊎◌, inl, inr, ℕ, List, [], ◌∷◌, ◌++◌, Option, refl, subst}
 use Rattle.std.specs.List.{AllByRecursion}
 use Rattle.align_base.specs.Shelf.{Holding, ShelfAccount}
 use Rattle.align_base.specs.declared.status.Status.{Status}
 use Rattle.align_base.specs.declared.status.Status.TheVariants as status
-use Rattle.align_cli.specs.Answers.{Finishes, Refuses, RefusesCommand, Tells, TellsOf}
-use Rattle.align_cli.specs.Command.{Command, IsCommand, IsUsageError, OfCommand}
+use Rattle.align_cli.specs.Answers.{Finishes, RefusesCommand, Tells, TellsOf}
+use Rattle.command_line.specs.Command.{Command, IsCommand, OfCommand}
 use Rattle.align_cli.specs.Commands.{Accepts, Owes, Rejects, finals}
 use Rattle.align_cli.specs.Files.{File, HasBadFile, IsGoodFile, ReadsFile, files_of}
 use Rattle.align_cli.specs.Statuses.{IsOneOf, interruptions}
 use Rattle.align_cli.proofs.Owing.{accepts-differs, accepts-good, bad-differs, good-differs, owes-accepts, owes-differs, rejects-differs, says-final}
-use Rattle.align_cli.proofs.PlainLines.{command-once}
+use Rattle.command_line.proofs.Commands.{command-once}
 
 -- what holds of all files holds of one in the middle
 one-of : (P : File → Type 0) (before after : List File) (file : File) → AllByRecursion P (before ++ file ∷ after) → P file

@@ -1,4 +1,3 @@
-pub mod PlainLines
 pub mod Products
 pub mod Tracking
 pub mod Lines

@@ -1,6 +1,6 @@
 -- A file is not both good and bad, and a text is one function at most: so files that are equivalent are not reported
 -- different, and files that differ are not reported equivalent.
-use Rattle.std.proofs.Common.{◌≡◌, ◌⊎◌, inl, inr, ⊎_elim, ℕ, ◌≤◌, List, [], ◌∷◌, ◌++◌, length, Option, Some, refl, sym, ◌∙◌, ap, subst, arith}
+use Rattle.std.proofs.Common.{◌≡◌, ◌⊎◌, inl, inr, ⊎_elim, ℕ, List, [], ◌∷◌, ◌++◌, length, Option, Some, refl, sym, ◌∙◌, ap, subst, arith}
 use Rattle.std.specs.List.{AllByRecursion}
 use Rattle.align_base.specs.Shelf.{Holding, Holds, HoldsMore}
 use Rattle.align_base.specs.declared.status.Side.{Side}
@@ -14,11 +14,13 @@ use Rattle.runs.specs.declared.ends.RunEnd.{RunEnd}
 use Rattle.machine.specs.Machine.{Machine, rax}
 use Rattle.insn_table.specs.Plain.{IsPlain}
 use Rattle.att_reader.specs.FunctionText.{IsFunctionText}
+use Rattle.admission_text.proofs.WholeTexts.{text-differs as admission-differs}
 use Rattle.att_reader.proofs.TextLaws as laws
-use Rattle.align_cli.specs.Command.{Command, DecidePlain, FunctionArguments}
-use Rattle.align_cli.specs.Commands.{Accepts, AreFunctions, HoldsFunction, OfPlain, Owes, RefusesContents, RefusesEither, Rejects, Says, TellsFunctions, finals}
-use Rattle.align_cli.specs.Files.{Content, FunctionText, File, IsBadFile, IsGoodFile, IsText, ReadsFile, RefusesFile, RefusesText, files_of, function_file, limit_of}
-use Rattle.align_cli.specs.Plainness.{IsFirstUnplain}
+use Rattle.tests_text.proofs.TestFaults.{text-differs as tests-differ}
+use Rattle.command_line.specs.Command.{Command, DecidePlain, FunctionArguments, RunArguments}
+use Rattle.command_line.specs.Command.{Run as ToRun}
+use Rattle.align_cli.specs.Commands.{Accepts, AreFunctions, HoldsFunction, OfPlain, Owes, RefusesContents, RefusesEither, Rejects, Says, TellsFunctions, TellsRunFiles, finals}
+use Rattle.align_cli.specs.Files.{AdmissionText, Content, FunctionText, TestsText, File, IsBadFile, IsGoodFile, IsText, ReadsFile, RefusesFile, RefusesText, files_of, function_file, limit_of}
 use Rattle.align_cli.specs.Shown.{start_at}
 use Rattle.align_cli.specs.Statuses.{IsOneOf, interruptions}
 use Rattle.align_cli.specs.Verdict.{ReportsDifferent, ReportsEquivalent, ReturnApart, ReturnTheSame}
@@ -27,6 +29,8 @@ use Rattle.align_cli.proofs.PlainEnds.{plain-unplain}
 -- a text is not both what it has to be and refused
 text-differs : (content : Content) (text report : List ℕ) → IsText content text → RefusesText content text report → ⊥
 text-differs (FunctionText side name) text report is refused = laws.text-differs text name is.0 refused.0 is.1 refused.1
+text-differs AdmissionText text report is refused = admission-differs text is.0 refused.0 is.1 refused.1
+text-differs TestsText text report is refused = tests-differ text is.0 refused.0 is.1 refused.1
 
 -- what a shelf that tells holds
 held_is : (told : Option Holding) (held : Holding) (file text : List ℕ) → told ≡ Some held → Holds told file text → held file ≡ Some text
@@ -102,6 +106,23 @@ functions_good C told left right owes = (good Left left owes.2.f owes.2.left_hol
       is_text = (f, h.reads);
     }
 
+-- files that hold a function, an admission and tests are good
+run_files_good : (told : Option Holding) (run : RunArguments) → TellsRunFiles told run → AllByRecursion (IsGoodFile told) (files_of (ToRun run))
+run_files_good told run tells =
+    let held = tells.0 in
+    let h = tells.2.function_holds in
+    let k = tells.2.admission_holds in
+    let l = tells.2.tests_holds in (
+      record { held = held; text = h.text; tells = tells.1; is_held = held_is told held run.function.file h.text tells.1 h.held; small = h.small; is_text = (tells.2.f, h.reads) },
+      (
+        record { held = held; text = k.text; tells = tells.1; is_held = held_is told held run.admission k.text tells.1 k.held; small = k.small; is_text = (tells.2.a, k.reads) },
+        (
+          record { held = held; text = l.text; tells = tells.1; is_held = held_is told held run.tests l.text tells.1 l.held; small = l.small; is_text = (tells.2.tests, l.reads) },
+          tt,
+        ),
+      ),
+    )
+
 -- both functions of a claim on plain functions are plain
 plain_both : (C : List Insn → List Insn → Type 0) (f g : List Insn) → OfPlain C f g → IsPlain f × IsPlain g
 plain_both C f g h = (h.0, h.1)
@@ -134,22 +155,29 @@ owes-differs (DecidePlain left right) status.Negative status.Good told report ow
 owes-differs (DecidePlain left right) status.Good _ told report owes says = absurd says
 owes-differs (DecidePlain left right) status.Negative _ told report owes says = absurd says
 owes-differs (DecidePlain left right) _ t told report owes says = absurd owes
+owes-differs (ToRun run) status.Good status.Good told report owes says = refl
+owes-differs (ToRun run) status.Good _ told report owes says = absurd says
+owes-differs (ToRun run) _ t told report owes says = absurd owes
 
 -- files that call for a status are accepted
 pub owes-accepts : (command : Command) (s : Status) (told : Option Holding) → Owes command s told → Accepts command told
 owes-accepts (DecidePlain left right) status.Good told owes = plain_functions ReturnTheSame told left right owes
 owes-accepts (DecidePlain left right) status.Negative told owes = plain_functions ReturnApart told left right owes
 owes-accepts (DecidePlain left right) _ told owes = absurd owes
+owes-accepts (ToRun run) status.Good told owes = owes
+owes-accepts (ToRun run) _ told owes = absurd owes
 
 -- files that are accepted are good
 pub accepts-good : (command : Command) (told : Option Holding) → Accepts command told → AllByRecursion (IsGoodFile told) (files_of command)
 accepts-good (DecidePlain left right) told accepts = functions_good (λ f g. IsPlain f × IsPlain g) told left right accepts
+accepts-good (ToRun run) told accepts = run_files_good told run accepts
 
 -- contents that are accepted were not refused
 pub accepts-differs : (command : Command) (told : Option Holding) (report : List ℕ) → Accepts command told → RefusesContents command told report → ⊥
 accepts-differs (DecidePlain left right) told report accepts refuses =
     plain_differ accepts.2.f.insns accepts.2.g.insns report accepts.2.claim
     (same_functions (RefusesEither report) (λ f g. IsPlain f × IsPlain g) told accepts.0 left right accepts.1 refuses accepts.2)
+accepts-differs (ToRun run) told report accepts refuses = absurd refuses
 
 -- contents that are rejected are in no report of a command that was carried out
 pub rejects-differs : (command : Command) (s : Status) (told : Option Holding) (report : List ℕ) → Rejects command told → Says command s told report → ⊥
@@ -162,9 +190,12 @@ rejects-differs (DecidePlain left right) status.Negative told report rejects say
     (plain_both (λ f g. ReportsDifferent f g report) rejects.2.f.insns rejects.2.g.insns
     (same_functions (OfPlain (λ f g. ReportsDifferent f g report)) (λ f g. (IsPlain f → ⊥) ⊎ (IsPlain g → ⊥)) told rejects.0 left right rejects.1 says rejects.2))
 rejects-differs (DecidePlain left right) _ told report rejects says = absurd says
+rejects-differs (ToRun run) s told report rejects says = absurd rejects
 
 -- a report of a command that was carried out has one of its statuses
 pub says-final : (command : Command) (s : Status) (told : Option Holding) (report : List ℕ) → Says command s told report → IsOneOf (finals command ++ interruptions) s
 says-final (DecidePlain left right) status.Good told report says = inl refl
 says-final (DecidePlain left right) status.Negative told report says = inr (inl refl)
 says-final (DecidePlain left right) _ told report says = absurd says
+says-final (ToRun run) status.Good told report says = inl refl
+says-final (ToRun run) _ told report says = absurd says

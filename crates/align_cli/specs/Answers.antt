@@ -8,7 +8,7 @@ use Rattle.align_base.specs.Sink.{Appended, AppendedPrefix, SinkAccount}
 use Rattle.align_base.specs.declared.shelf.Call.TheVariants.{Take}
 use Rattle.align_base.specs.declared.status.Status.{Status}
 use Rattle.align_base.specs.declared.status.Status.TheVariants as status
-use Rattle.align_cli.specs.Command.{Command, IsCommand, IsUsageError, OfCommand}
+use Rattle.command_line.specs.Command.{Command, IsUsageError, OfCommand}
 use Rattle.align_cli.specs.Commands.{RefusesContents, Says}
 use Rattle.align_cli.specs.Files.{File, IsReached, ReadsFile, RefusesFile, files_of}
 use Rattle.align_cli.specs.Report.{usage_text}
@@ -76,6 +76,10 @@ GivenPrefix arguments before after sink_before sink_after =
     (status : Status) × (report : List ℕ) × Tells arguments status before after report
     × AppendedPrefix sink_before.written sink_after.written report × (sink_after.calls ≡ count_after sink_before.calls 1)
 
--- no more calls than there are files
+-- some calls, no more than there are files
+abbrev pub TakesSome : List File → ShelfAccount → ShelfAccount → Type 0
+TakesSome files before after = (k : ℕ) × (k ≤ length files) × (after.calls ≡ count_after before.calls k)
+
+-- no call, or no more calls than there are files
 abbrev pub TakesAtMost : List File → ShelfAccount → ShelfAccount → Type 0
-TakesAtMost files before after = (k : ℕ) × (k ≤ length files) × (after.calls ≡ count_after before.calls k)
+TakesAtMost files before after = (after ≡ before) ⊎ TakesSome files before after

@@ -1,5 +1,5 @@
 -- What each command tells, by the status that it ends with.
-use Rattle.std.specs.Prelude.{◌≡◌, ◌⊎◌, ℕ, ◌≤◌, List, [], ◌∷◌, length, Option, Some}
+use Rattle.std.specs.Prelude.{◌≡◌, ◌⊎◌, ⊤, ℕ, ◌≤◌, List, [], ◌∷◌, length, Option, Some}
 use Rattle.align_base.specs.Shelf.{Holding, Holds}
 use Rattle.align_base.specs.declared.status.Side.{Side}
 use Rattle.align_base.specs.declared.status.Side.TheVariants.{Left, Right}
@@ -8,8 +8,13 @@ use Rattle.align_base.specs.declared.status.Status.TheVariants as status
 use Rattle.insn_table.specs.declared.insn.Insn.{Insn}
 use Rattle.insn_table.specs.declared.insn.Function.{Function}
 use Rattle.insn_table.specs.Plain.{IsPlain}
+use Rattle.admission.specs.declared.admission.Admission.{Admission}
+use Rattle.admission_text.specs.Entries.{IsAdmissionText}
+use Rattle.align_report.specs.RunReport.{IsRunReport}
 use Rattle.att_reader.specs.FunctionText.{IsFunctionText}
-use Rattle.align_cli.specs.Command.{Command, DecidePlain, FunctionArguments}
+use Rattle.tests_text.specs.TestFiles.{IsTestsText}
+use Rattle.tests_text.specs.declared.test.Tests.{Tests}
+use Rattle.command_line.specs.Command.{Command, DecidePlain, FunctionArguments, Run, RunArguments}
 use Rattle.align_cli.specs.Plainness.{IsFirstUnplain}
 use Rattle.align_cli.specs.Report.{unplain_refusal}
 use Rattle.align_cli.specs.Verdict.{ReportsDifferent, ReportsEquivalent, ReturnApart, ReturnTheSame}
@@ -20,6 +25,30 @@ pub record HoldsFunction (told : Option Holding) (arguments : FunctionArguments)
   pub held : Holds told arguments.file text
   pub small : length text ≤ 16777216
   pub reads : IsFunctionText text arguments.name f
+
+-- the file holds a text within the limit that is this admission
+pub record HoldsAdmission (told : Option Holding) (name : List ℕ) (a : Admission) : Type 0 where
+  pub text : List ℕ
+  pub held : Holds told name text
+  pub small : length text ≤ 16777216
+  pub reads : IsAdmissionText text a
+
+-- the file holds a text within the limit that is these tests
+pub record HoldsTests (told : Option Holding) (name : List ℕ) (tests : Tests) : Type 0 where
+  pub text : List ℕ
+  pub held : Holds told name text
+  pub small : length text ≤ 16777216
+  pub reads : IsTestsText text tests
+
+-- the files hold a function, an admission and tests of which this is so
+pub record AreRunFiles (Claim : Function → Admission → Tests → Type 0) (told : Option Holding) (run : RunArguments) : Type 0 where
+  pub f : Function
+  pub a : Admission
+  pub tests : Tests
+  pub function_holds : HoldsFunction told run.function f
+  pub admission_holds : HoldsAdmission told run.admission a
+  pub tests_holds : HoldsTests told run.tests tests
+  pub claim : Claim f a tests
 
 -- the files hold functions of which this is so
 pub record AreFunctions (Claim : List Insn → List Insn → Type 0) (told : Option Holding) (left right : FunctionArguments) : Type 0 where
@@ -38,10 +67,13 @@ abbrev pub Says : Command → Status → Option Holding → List ℕ → Type 0
 Says (DecidePlain left right) status.Good told report = AreFunctions (OfPlain (λ f g. ReportsEquivalent f g report)) told left right
 Says (DecidePlain left right) status.Negative told report = AreFunctions (OfPlain (λ f g. ReportsDifferent f g report)) told left right
 Says (DecidePlain left right) _ told report = ⊥
+Says (Run run) status.Good told report = AreRunFiles (λ f a tests. IsRunReport f a tests run.steps report) told run
+Says (Run run) _ told report = ⊥
 
 -- the statuses of a command that was carried out
 abbrev pub finals : Command → List Status
 finals (DecidePlain left right) = status.Good ∷ status.Negative ∷ []
+finals (Run run) = status.Good ∷ []
 
 -- the function is not plain, and the report refuses it at its first instruction that is not
 abbrev pub RefusesUnplain : Side → List Insn → List ℕ → Type 0
@@ -54,21 +86,30 @@ RefusesEither report f g = RefusesUnplain Left f report ⊎ (IsPlain f × Refuse
 -- the report refuses what the files hold, once all were read
 abbrev pub RefusesContents : Command → Option Holding → List ℕ → Type 0
 RefusesContents (DecidePlain left right) told report = AreFunctions (RefusesEither report) told left right
+RefusesContents (Run run) told report = ⊥
 
 -- the shelf tells, and the files hold functions of which this is so
 abbrev pub TellsFunctions : (List Insn → List Insn → Type 0) → Option Holding → FunctionArguments → FunctionArguments → Type 0
 TellsFunctions Claim told left right = (held : Holding) × (told ≡ Some held) × AreFunctions Claim told left right
 
+-- the shelf tells, and the files hold a function, an admission and tests
+abbrev pub TellsRunFiles : Option Holding → RunArguments → Type 0
+TellsRunFiles told run = (held : Holding) × (told ≡ Some held) × AreRunFiles (λ f a tests. ⊤) told run
+
 -- the files are such that the command can be carried out
 abbrev pub Accepts : Command → Option Holding → Type 0
 Accepts (DecidePlain left right) told = TellsFunctions (λ f g. IsPlain f × IsPlain g) told left right
+Accepts (Run run) told = TellsRunFiles told run
 
 -- the files are good, and the command cannot be carried out with what they hold
 abbrev pub Rejects : Command → Option Holding → Type 0
 Rejects (DecidePlain left right) told = TellsFunctions (λ f g. (IsPlain f → ⊥) ⊎ (IsPlain g → ⊥)) told left right
+Rejects (Run run) told = ⊥
 
 -- the files are such that the command has to end with this status
 abbrev pub Owes : Command → Status → Option Holding → Type 0
 Owes (DecidePlain left right) status.Good told = TellsFunctions (OfPlain ReturnTheSame) told left right
 Owes (DecidePlain left right) status.Negative told = TellsFunctions (OfPlain ReturnApart) told left right
 Owes (DecidePlain left right) _ told = ⊥
+Owes (Run run) status.Good told = TellsRunFiles told run
+Owes (Run run) _ told = ⊥

@@ -1,18 +1,28 @@
 -- The files that a command names, in the order in which they are taken, and what each has to be.
-use Rattle.std.specs.Prelude.{◌≡◌, ◌⊎◌, ℕ, ◌+◌, ◌<◌, ◌≤◌, List, [], ◌∷◌, ◌++◌, length, Option, Some}
+use Rattle.std.specs.Prelude.{◌≡◌, ◌⊎◌, ℕ, ◌+◌, ◌<◌, ◌≤◌, List, [], ◌∷◌, ◌++◌, length, codes, Option, Some}
 use Rattle.std.specs.List.{AllByRecursion}
 use Rattle.align_base.specs.Shelf.{Holding, Holds, HoldsMore}
 use Rattle.align_base.specs.declared.status.Side.{Side}
 use Rattle.align_base.specs.declared.status.Side.TheVariants.{Left, Right}
 use Rattle.insn_table.specs.declared.insn.Function.{Function}
+use Rattle.admission.specs.declared.admission.Admission.{Admission}
+use Rattle.admission_text.specs.Entries.{IsAdmissionText}
+use Rattle.admission_text.specs.Refusals as admissions
+use Rattle.admission_text.specs.declared.refusal.AdmitRefusal.{AdmitRefusal}
+use Rattle.tests_text.specs.TestFiles as tests
+use Rattle.tests_text.specs.TestFiles.{IsTestsText}
+use Rattle.tests_text.specs.declared.refusal.TestRefusal.{TestRefusal}
+use Rattle.tests_text.specs.declared.test.Tests.{Tests}
 use Rattle.text_lines.specs.declared.refusal.ReadRefusal.{ReadRefusal}
 use Rattle.att_reader.specs.FunctionText.{IsFunctionText, IsRefused}
-use Rattle.align_cli.specs.Command.{Command, DecidePlain, FunctionArguments}
-use Rattle.align_cli.specs.Report.{large_refusal, line_refusal}
+use Rattle.command_line.specs.Command.{Command, DecidePlain, FunctionArguments, Run}
+use Rattle.align_cli.specs.Report.{admission_refusal, large_refusal, line_refusal, side_name, tests_refusal}
 
 -- what the text of a file has to be
 pub data Content : Type 0 where
   FunctionText : Side → List ℕ → Content  -- on this side, and has the function of this name
+  AdmissionText : Content
+  TestsText : Content
 
 -- the argument that names a file, and what its text has to be
 pub record File : Type 0 where
@@ -23,25 +33,44 @@ pub record File : Type 0 where
 abbrev pub function_file : Side → FunctionArguments → File
 function_file side arguments = record { name = arguments.file; content = FunctionText side arguments.name }
 
+-- the file of an admission
+abbrev pub admission_file : List ℕ → File
+admission_file name = record { name = name; content = AdmissionText }
+
+-- the file of tests
+abbrev pub tests_file : List ℕ → File
+tests_file name = record { name = name; content = TestsText }
+
 -- the files of a command, in order
 abbrev pub files_of : Command → List File
 files_of (DecidePlain left right) = function_file Left left ∷ function_file Right right ∷ []
+files_of (Run run) = function_file Left run.function ∷ admission_file run.admission ∷ tests_file run.tests ∷ []
 
 -- the most bytes of a file: 16 MiB
 abbrev pub limit_of : Content → ℕ
-limit_of (FunctionText side name) = 16777216
+limit_of content = 16777216
 
 -- the text is what it has to be
 abbrev pub IsText : Content → List ℕ → Type 0
 IsText (FunctionText side name) text = (f : Function) × IsFunctionText text name f
+IsText AdmissionText text = (a : Admission) × IsAdmissionText text a
+IsText TestsText text = (tests : Tests) × IsTestsText text tests
 
 -- the text isn't what it has to be, and this report refuses it
 abbrev pub RefusesText : Content → List ℕ → List ℕ → Type 0
 RefusesText (FunctionText side name) text report = (e : ReadRefusal) × IsRefused text name e × (report ≡ line_refusal side e.line e.kind)
+RefusesText AdmissionText text report = (e : AdmitRefusal) × admissions.IsRefused text e × (report ≡ admission_refusal e)
+RefusesText TestsText text report = (e : TestRefusal) × tests.IsRefused text e × (report ≡ tests_refusal e)
+
+-- what reports call a file
+abbrev pub file_word : Content → List ℕ
+file_word (FunctionText side name) = side_name side
+file_word AdmissionText = codes "admit"
+file_word TestsText = codes "tests"
 
 -- the report that refuses a file of more bytes than the limit, of which so many were read
 abbrev pub large_report : Content → ℕ → List ℕ
-large_report (FunctionText side name) seen = large_refusal side seen
+large_report content seen = large_refusal (file_word content) seen
 
 -- the file holds a text within the limit that is what it has to be
 pub record ReadsFile (told : Option Holding) (file : File) : Type 0 where

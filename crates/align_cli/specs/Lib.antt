@@ -1,9 +1,7 @@
 pub mod Answers
-pub mod Command
 pub mod Commands
 pub mod Files
 pub mod Inside
-pub mod PlainArguments
 pub mod Plainness
 pub mod Report
 pub mod Shown

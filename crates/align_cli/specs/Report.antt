@@ -3,6 +3,10 @@ use Rattle.std.specs.Prelude.{ℕ, ◌+◌, ◌==◌, List, [], ◌∷◌, ◌++
 use Rattle.std.specs.Fmt.{digits}
 use Rattle.align_base.specs.declared.status.Side.{Side}
 use Rattle.align_base.specs.declared.status.Side.TheVariants.{Left, Right}
+use Rattle.admission_text.specs.declared.refusal.AdmitRefusal.{AdmitRefusal}
+use Rattle.admission_text.specs.declared.refusal.AdmitRefusal.TheVariants as admits
+use Rattle.tests_text.specs.declared.refusal.TestRefusal.{TestRefusal}
+use Rattle.tests_text.specs.declared.refusal.TestRefusal.TheVariants as tests
 use Rattle.text_lines.specs.declared.refusal.ReadKind.{ReadKind}
 use Rattle.text_lines.specs.declared.refusal.ReadKind.TheVariants as kind
 
@@ -64,22 +68,44 @@ kind_name kind.UnknownLabel = codes "unknown-label"
 kind_name kind.TooManyInsns = codes "too-many-insns"
 kind_name kind.FallsOff = codes "falls-off"
 
--- a refusal at a line, by what it is called
-unfoldable pub named_refusal : Side → ℕ → List ℕ → List ℕ
-named_refusal side line name =
-    codes "refused " ++ side_name side ++ codes " line " ++ decimal line ++ codes " " ++ name ++ codes "\n"
+-- a refusal at a line, by what the file and the fault are called
+unfoldable pub named_refusal : List ℕ → ℕ → List ℕ → List ℕ
+named_refusal file line name = codes "refused " ++ file ++ codes " line " ++ decimal line ++ codes " " ++ name ++ codes "\n"
 
 -- the refusal of a function that is not plain, at a line
 abbrev pub unplain_refusal : Side → ℕ → List ℕ
-unplain_refusal side line = named_refusal side line (codes "not-plain")
+unplain_refusal side line = named_refusal (side_name side) line (codes "not-plain")
 
 -- the refusal of a text at a line
 abbrev pub line_refusal : Side → ℕ → ReadKind → List ℕ
-line_refusal side line kind = named_refusal side line (kind_name kind)
+line_refusal side line kind = named_refusal (side_name side) line (kind_name kind)
 
--- the refusal of a file of which so many bytes were read
-unfoldable pub large_refusal : Side → ℕ → List ℕ
-large_refusal side seen = codes "refused " ++ side_name side ++ codes " large " ++ decimal seen ++ codes "\n"
+-- the refusal of an admission
+abbrev pub admission_refusal : AdmitRefusal → List ℕ
+admission_refusal (admits.BadLine line) = named_refusal (codes "admit") line (codes "bad-line")
+admission_refusal (admits.TooMany line) = named_refusal (codes "admit") line (codes "too-many")
+admission_refusal admits.NoLive = named_refusal (codes "admit") 0 (codes "no-live")
+admission_refusal admits.Memory = named_refusal (codes "admit") 0 (codes "memory")
+
+-- the refusal of all tests, by what the fault is called
+unfoldable pub tests_named : List ℕ → List ℕ
+tests_named name = codes "refused tests " ++ name ++ codes "\n"
+
+-- the refusal of a test, by its number and what the fault is called; 0 is the outer object
+unfoldable pub test_named : ℕ → List ℕ → List ℕ
+test_named k name = codes "refused tests test " ++ decimal k ++ codes " " ++ name ++ codes "\n"
+
+-- the refusal of tests
+abbrev pub tests_refusal : TestRefusal → List ℕ
+tests_refusal tests.NotJson = tests_named (codes "not-json")
+tests_refusal (tests.BadShape k) = test_named k (codes "bad-shape")
+tests_refusal tests.TooMany = tests_named (codes "too-many")
+tests_refusal (tests.TooManyBytes k) = test_named k (codes "too-many-bytes")
+tests_refusal tests.Memory = tests_named (codes "memory")
+
+-- the refusal of a file of which so many bytes were read, by what the file is called
+unfoldable pub large_refusal : List ℕ → ℕ → List ℕ
+large_refusal file seen = codes "refused " ++ file ++ codes " large " ++ decimal seen ++ codes "\n"
 
 -- how the program is used
 unfoldable pub usage_text : List ℕ

@@ -1,17 +1,13 @@
 -- What contracts see of the code's types.
-use Rattle.align_cli.specs.Command as plain
-use Rattle.align_cli.specs.declared.arguments.Command.{Command}
-use Rattle.align_cli.specs.declared.arguments.Command.TheVariants.{DecidePlain}
-use Rattle.align_cli.specs.declared.arguments.FunctionArguments.{FunctionArguments}
-
--- the arguments of a function
-abbrev pub function_view : FunctionArguments → plain.FunctionArguments
-function_view arguments = record { file = arguments.file.now; name = arguments.name.now }
+use Rattle.command_line.specs.Command as plain
+use Rattle.command_line.specs.View.{function_view, run_view}
+use Rattle.command_line.specs.declared.command.FunctionArguments.{FunctionArguments}
+use Rattle.command_line.specs.declared.command.RunArguments.{RunArguments}
 
 -- the command to decide two functions
 abbrev pub decide_view : FunctionArguments → FunctionArguments → plain.Command
 decide_view left right = plain.DecidePlain (function_view left) (function_view right)
 
--- a command
-abbrev pub command_view : Command → plain.Command
-command_view (DecidePlain left right) = decide_view left right
+-- the command to run a function
+abbrev pub run_command : RunArguments → plain.Command
+run_command arguments = plain.Run (run_view arguments)

@@ -2,7 +2,7 @@
 ghost use Rattle.std.specs.Prelude.{◌≡◌};
 ghost use Rattle.align_cli.specs.declared.answer.Interruption.TheVariants as interruption;
 
-use align_base::Status;
+use align_base::{Memory, Status};
 use std::alloc::AllocError;
 use thiserror::Error;
 
@@ -28,6 +28,14 @@ impl From<AllocError> for Interruption {
     ghost from_gives = { λ _ e. e ≡ interruption.Memory };
 
     fn from(_error: AllocError) -> Interruption {
+        Interruption::Memory
+    }
+}
+
+impl From<Memory> for Interruption {
+    ghost from_gives = { λ _ e. e ≡ interruption.Memory };
+
+    fn from(_failed: Memory) -> Interruption {
         Interruption::Memory
     }
 }

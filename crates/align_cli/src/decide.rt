@@ -4,20 +4,20 @@ ghost use Rattle.std.specs.Prelude.{◌≡◌, ◌≤◌, length, string_bytes, 
 ghost use Rattle.align_base.specs.Shelf.{NoneFailed};
 ghost use Rattle.insn_table.specs.Closed.{IsClosed};
 ghost use Rattle.insn_table.specs.Plain.{IsPlain};
-ghost use Rattle.align_cli.specs.Answers.{TakesAtMost, TellsOf};
+ghost use Rattle.align_cli.specs.Answers.{TakesSome, TellsOf};
 ghost use Rattle.align_cli.specs.Commands.{RefusesEither};
 ghost use Rattle.align_cli.specs.Files.{files_of};
 ghost use Rattle.align_cli.specs.Inside.{Compares, Interrupts};
 ghost use Rattle.align_cli.specs.View.{decide_view};
 
 use crate::answer::{Answer, Interruption};
-use crate::arguments::FunctionArguments;
-use crate::functions::{Taken, function_in};
+use crate::files::{Taken, function_in};
 use crate::plainness::first_unplain;
 use crate::report;
 use crate::report::Ending;
 use crate::sums::{rax_sum, telling_registers};
 use align_base::{Shelf, Side, Status};
+use command_line::FunctionArguments;
 use insn_table::Function;
 use std::alloc::{AllocError, Global};
 
@@ -95,12 +95,12 @@ fn judged(alloc: Global, left: &Function, right: &Function) -> Result<Answer, Al
 /// Takes and reads the left file, then the right one, and compares the functions.
 pub fn decided<F: Shelf>(
     alloc: Global,
-    left: &FunctionArguments<'_>,
-    right: &FunctionArguments<'_>,
+    left: &FunctionArguments,
+    right: &FunctionArguments,
     shelf: &mut F,
 ) -> Result<Answer, Interruption>
     ensures holding { (F.account shelf.new).holding ≡ (F.account shelf.old).holding }
-    ensures takes { TakesAtMost (files_of (decide_view left.now right.now)) (F.account shelf.old) (F.account shelf.new) }
+    ensures takes { TakesSome (files_of (decide_view left.now right.now)) (F.account shelf.old) (F.account shelf.new) }
     ensures ok { IfOk result (λ answer.
         TellsOf (decide_view left.now right.now) answer.status (F.account shelf.old) (F.account shelf.new) (string_bytes answer.text)) }
     ensures none_failed { OnOk result (NoneFailed (F.account shelf.old) (F.account shelf.new)) }

@@ -1,10 +1,12 @@
 //! The texts that the program gives: reports, refusals and the usage.
 ghost use Rattle.std.specs.Prelude.{◌≡◌, ◌<◌, ◌++◌, length, slice_get, Some, string_bytes, IfOk, OnOk};
-ghost use Rattle.align_cli.specs.Report.{different_report, equivalent_report, differs_line, kind_name, large_refusal, line_refusal, named_refusal, register_line, register_lines, register_names, returned_line, side_name, unplain_refusal, usage_text, value_text};
+ghost use Rattle.align_cli.specs.Report.{admission_refusal, test_named, tests_named, tests_refusal, different_report, equivalent_report, differs_line, kind_name, large_refusal, line_refusal, named_refusal, register_line, register_lines, register_names, returned_line, side_name, unplain_refusal, usage_text, value_text};
 
+use admission_text::AdmitRefusal;
 use align_base::Side;
 use att_reader::{ReadKind, ReadRefusal};
 use std::alloc::{AllocError, Global};
+use tests_text::TestRefusal;
 
 /// The report of two functions that are equivalent within a bound.
 #[tactic(auto, unfolding(crate::specs::Report::equivalent_report))]
@@ -74,7 +76,7 @@ fn push_registers(out: &mut String, regs: &[u64]) -> Result<(), AllocError>
 }
 
 /// What reports call a side.
-fn side_name(side: Side) -> &'static str
+pub fn side_name(side: Side) -> &'static str
     ensures { result.now ≡ side_name side }
 {
     match side {
@@ -153,13 +155,13 @@ pub fn different(
     Ok(text)
 }
 
-/// A refusal at a line, by what it is called.
+/// A refusal at a line, by what the file and the fault are called.
 #[tactic(auto, unfolding(crate::specs::Report::named_refusal))]
-fn refused(alloc: Global, side: Side, line: u32, name: &str) -> Result<String, AllocError>
-    ensures { IfOk result (λ text. string_bytes text ≡ named_refusal side line name.now) }
+fn refused(alloc: Global, file: &str, line: u32, name: &str) -> Result<String, AllocError>
+    ensures { IfOk result (λ text. string_bytes text ≡ named_refusal file.now line name.now) }
 {
     let mut text = String::from_str(alloc, "refused ")?;
-    text.push_str(side_name(side))?;
+    text.push_str(file)?;
     write!(text, " line {line} ")?;
     text.push_str(name)?;
     text.push_str("\n")?;
@@ -170,23 +172,78 @@ fn refused(alloc: Global, side: Side, line: u32, name: &str) -> Result<String, A
 pub fn refused_line(alloc: Global, side: Side, refusal: ReadRefusal) -> Result<String, AllocError>
     ensures { IfOk result (λ text. string_bytes text ≡ line_refusal side refusal.line refusal.kind) }
 {
-    refused(alloc, side, refusal.line, kind_name(refusal.kind))
+    refused(
+        alloc,
+        side_name(side),
+        refusal.line,
+        kind_name(refusal.kind),
+    )
 }
 
 /// The refusal of a function that is not plain, at the line of its first instruction that is not.
 pub fn refused_unplain(alloc: Global, side: Side, line: u32) -> Result<String, AllocError>
     ensures { IfOk result (λ text. string_bytes text ≡ unplain_refusal side line) }
 {
-    refused(alloc, side, line, "not-plain")
+    refused(alloc, side_name(side), line, "not-plain")
 }
 
-/// The refusal of a file of more bytes than the limit, of which so many were read.
-#[tactic(auto, unfolding(crate::specs::Report::large_refusal))]
-pub fn refused_large(alloc: Global, side: Side, seen: u64) -> Result<String, AllocError>
-    ensures { IfOk result (λ text. string_bytes text ≡ large_refusal side seen) }
+/// The refusal of an admission.
+pub fn refused_admission(alloc: Global, refusal: AdmitRefusal) -> Result<String, AllocError>
+    ensures { IfOk result (λ text. string_bytes text ≡ admission_refusal refusal) }
 {
-    let name = side_name(side);
-    format!(in alloc; "refused {name} large {seen}\n")
+    match refusal {
+        AdmitRefusal::BadLine(line) => refused(alloc, "admit", line, "bad-line"),
+        AdmitRefusal::TooMany(line) => refused(alloc, "admit", line, "too-many"),
+        AdmitRefusal::NoLive => refused(alloc, "admit", 0, "no-live"),
+        AdmitRefusal::Memory => refused(alloc, "admit", 0, "memory"),
+    }
+}
+
+/// The refusal of all tests, by what the fault is called.
+#[tactic(auto, unfolding(crate::specs::Report::tests_named))]
+fn tests_named(alloc: Global, name: &str) -> Result<String, AllocError>
+    ensures { IfOk result (λ text. string_bytes text ≡ tests_named name.now) }
+{
+    let mut text = String::from_str(alloc, "refused tests ")?;
+    text.push_str(name)?;
+    text.push_str("\n")?;
+    Ok(text)
+}
+
+/// The refusal of a test, by its number and what the fault is called.
+#[tactic(auto, unfolding(crate::specs::Report::test_named))]
+fn test_named(alloc: Global, number: u32, name: &str) -> Result<String, AllocError>
+    ensures { IfOk result (λ text. string_bytes text ≡ test_named number name.now) }
+{
+    let mut text = format!(in alloc; "refused tests test {number} ")?;
+    text.push_str(name)?;
+    text.push_str("\n")?;
+    Ok(text)
+}
+
+/// The refusal of tests.
+pub fn refused_tests(alloc: Global, refusal: TestRefusal) -> Result<String, AllocError>
+    ensures { IfOk result (λ text. string_bytes text ≡ tests_refusal refusal) }
+{
+    match refusal {
+        TestRefusal::NotJson => tests_named(alloc, "not-json"),
+        TestRefusal::BadShape(number) => test_named(alloc, number, "bad-shape"),
+        TestRefusal::TooMany => tests_named(alloc, "too-many"),
+        TestRefusal::TooManyBytes(number) => test_named(alloc, number, "too-many-bytes"),
+        TestRefusal::Memory => tests_named(alloc, "memory"),
+    }
+}
+
+/// The refusal of a file of more bytes than the limit, of which so many were read, by what the file is
+/// called.
+#[tactic(auto, unfolding(crate::specs::Report::large_refusal))]
+pub fn refused_large(alloc: Global, file: &str, seen: u64) -> Result<String, AllocError>
+    ensures { IfOk result (λ text. string_bytes text ≡ large_refusal file.now seen) }
+{
+    let mut text = String::from_str(alloc, "refused ")?;
+    text.push_str(file)?;
+    write!(text, " large {seen}\n")?;
+    Ok(text)
 }
 
 /// How the program is used.

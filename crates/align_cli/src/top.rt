@@ -4,7 +4,7 @@ ghost use Rattle.align_base.specs.Causes.{Rose};
 ghost use Rattle.align_base.specs.Shelf.{NoneFailed};
 ghost use Rattle.align_base.specs.declared.status.Status.{Status};
 ghost use Rattle.align_cli.specs.Answers.{FailsAtFile, Finishes, Given, GivenPrefix, RefusesCommand, TakesAtMost, Tells, TellsUsage};
-ghost use Rattle.align_cli.specs.Command.{Command, IsCommand, IsUsageError, OfCommand};
+ghost use Rattle.command_line.specs.Command.{Command, IsCommand, IsUsageError, OfCommand};
 ghost use Rattle.align_cli.specs.Commands.{Accepts, finals, Owes, Rejects};
 ghost use Rattle.align_cli.specs.Files.{files_of, HasBadFile};
 ghost use Rattle.align_cli.specs.Inside.{InterruptsArguments};
@@ -12,10 +12,11 @@ ghost use Rattle.align_cli.specs.Report.{usage_text};
 ghost use Rattle.align_cli.specs.Statuses.{interruptions, IsOneOf};
 
 use crate::answer::{Answer, Interruption};
-use crate::arguments::command_of;
 use crate::decide::decided;
-use crate::{arguments, report};
+use crate::report;
+use crate::run::ran;
 use align_base::{Gate, GiveFault, Shelf, Sink, Status, Word};
+use command_line::command_of;
 use std::alloc::{AllocError, Global};
 use std::thread::Threads;
 
@@ -44,8 +45,11 @@ fn answer_of<F: Shelf>(
     ensures none_failed { OnOk result (NoneFailed (F.account shelf.old) (F.account shelf.new)) }
     ensures err { IfErr result (InterruptsArguments arguments.now (F.account shelf.old) (F.account shelf.new)) }
 {
-    match command_of(arguments) {
-        Some(arguments::Command::DecidePlain(left, right)) => decided(alloc, &left, &right, shelf),
+    match command_of(alloc, arguments)? {
+        Some(command_line::Command::DecidePlain(left, right)) => decided(
+            alloc, &left, &right, shelf,
+        ),
+        Some(command_line::Command::Run(run)) => ran(alloc, &run, shelf),
         None => Ok(usage(alloc)?),
     }
 }

@@ -1,4 +1,4 @@
-use Rattle.std.proofs.Common.{rules, inl, arith}
+use Rattle.std.proofs.Common.{inl, arith}
 use Rattle.align_cli.specs.Inside.{Interrupts}
 use Rattle.align_cli.proofs.Reaching.{both-read, counted_twice, err-is, left-interrupts, left-refused, right-interrupts, right-refused}
 use Rattle.align_cli.proofs.decide.decided.Goals as goal

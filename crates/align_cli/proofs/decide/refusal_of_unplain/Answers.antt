@@ -1,4 +1,4 @@
-use Rattle.std.proofs.Common.{rules, inr}
+use Rattle.std.proofs.Common.{inr}
 use Rattle.align_cli.proofs.PlainEnds.{closed-plain}
 use Rattle.align_cli.proofs.decide.refusal_of_unplain.Goals as goal
 

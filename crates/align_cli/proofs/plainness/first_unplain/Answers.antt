@@ -1,4 +1,4 @@
-use Rattle.std.proofs.Common.{rules, subst, sym}
+use Rattle.std.proofs.Common.{rules, subst}
 use Rattle.align_cli.proofs.PlainEnds.{AreSoFar, more-so-far, none-so-far}
 use Rattle.align_cli.proofs.plainness.first_unplain.Goals as goal
 

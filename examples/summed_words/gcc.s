@@ -1,5 +1,6 @@
 	.file	"sum.c"
 	.text
+	.p2align 4
 	.globl	f
 	.type	f, @function
 f:
@@ -7,20 +8,21 @@ f:
 	.cfi_startproc
 	testq	%rsi, %rsi
 	je	.L4
-	movq	%rdi, %rax
-	leaq	(%rdi,%rsi,4), %rcx
-	movl	$0, %edx
+	leaq	(%rdi,%rsi,4), %rdx
+	xorl	%eax, %eax
+	.p2align 4,,10
+	.p2align 3
 .L3:
-	addl	(%rax), %edx
-	addq	$4, %rax
-	cmpq	%rcx, %rax
+	addl	(%rdi), %eax
+	addq	$4, %rdi
+	cmpq	%rdx, %rdi
 	jne	.L3
-.L1:
-	movl	%edx, %eax
 	ret
+	.p2align 4,,10
+	.p2align 3
 .L4:
-	movl	$0, %edx
-	jmp	.L1
+	xorl	%eax, %eax
+	ret
 	.cfi_endproc
 .LFE0:
 	.size	f, .-f

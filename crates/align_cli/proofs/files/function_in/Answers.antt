@@ -1,0 +1,13 @@
+use Rattle.std.proofs.Common.{rules}
+use Rattle.align_cli.proofs.Reaching.{read-function, read-refused}
+use Rattle.align_cli.proofs.files.function_in.Goals as goal
+
+pub returns-in-Ok-clause-ok : goal.returns-in-Ok-clause-ok
+returns-in-Ok-clause-ok g c =
+    let text = rw c.in-Read.is at c.in_ok-text.ensures.ok in
+    read-function _ _ _ _ _ text.0 text.1 c.as_slice.ensures.value c.in-Ok.ensures.exact c.in-Ok.ensures.closed
+
+pub returns-clause-ok : goal.returns-clause-ok
+returns-clause-ok g c =
+    let text = rw c.in-Read.is at c.in_ok-text.ensures.ok in
+    read-refused _ _ _ _ _ _ _ _ text.0 text.1 c.as_slice.ensures.value c.in-Err.ensures.exact c.in_default.not-Memory (search rules)
