@@ -1,6 +1,6 @@
 -- Expressions of the operators on words over numbered leaves, and their values. The value of an instruction's row
 -- is the value of its expression, for the emulator as for what is proved of all inputs.
-use Rattle.std.specs.Prelude.{ℕ, List, [], ◌∷◌, ◌++◌, bit_and, bit_or, bit_xor}
+use Rattle.std.specs.Prelude.{ℕ, ◌==◌, List, [], ◌∷◌, ◌++◌, bit_and, bit_or, bit_xor, filter, not, if◌then◌else◌}
 use Rattle.instruction_semantics.specs.Words as words
 
 -- the operators of two arguments of one width; the last three answer one bit
@@ -30,6 +30,7 @@ pub data Expr : Type 0 where
   Cut : Expr → ℕ → ℕ → Expr  -- n bits from bit k on
   Extended : ℕ → ℕ → Expr → Expr  -- from m bits to n by the sign
   Choice : Expr → Expr → Expr → Expr  -- the second where the first is 1, else the third
+  Let : ℕ → Expr → Expr → Expr  -- the first is built before the second, in which the leaf of this number names it
 
 abbrev pub operator_value : Operator → ℕ → ℕ → ℕ → ℕ
 operator_value Plus w a b = words.plus w a b
@@ -47,6 +48,10 @@ shift_value Left w a k = words.left_shift w a k
 shift_value Right w a k = words.right_shift a k
 shift_value Signed w a k = words.signed_shift w a k
 
+-- the leaves with leaf i being v
+abbrev pub with_leaf : (ℕ → ℕ) → ℕ → ℕ → ℕ → ℕ
+with_leaf leaves i v j = if j == i then v else leaves j
+
 -- the value of an expression where leaf i is the word that leaves gives to i
 abbrev pub value : (ℕ → ℕ) → Expr → ℕ
 value leaves (Leaf i) = leaves i
@@ -58,8 +63,9 @@ value leaves (Joined n x y) = words.concatenation n (value leaves x) (value leav
 value leaves (Cut x k n) = words.cut (value leaves x) k n
 value leaves (Extended m n x) = words.sign_extension m n (value leaves x)
 value leaves (Choice c x y) = words.choice (value leaves c) (value leaves x) (value leaves y)
+value leaves (Let i x y) = value (with_leaf leaves i (value leaves x)) y
 
--- the leaves that an expression names, in their order
+-- the leaves that an expression names, in their order, without those that name a part of it
 abbrev pub leaves_of : Expr → List ℕ
 leaves_of (Leaf i) = i ∷ []
 leaves_of (Number w v) = []
@@ -70,3 +76,4 @@ leaves_of (Joined n x y) = leaves_of x ++ leaves_of y
 leaves_of (Cut x k n) = leaves_of x
 leaves_of (Extended m n x) = leaves_of x
 leaves_of (Choice c x y) = leaves_of c ++ leaves_of x ++ leaves_of y
+leaves_of (Let i x y) = leaves_of x ++ filter (λ j. not (j == i)) (leaves_of y)
