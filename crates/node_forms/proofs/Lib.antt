@@ -1,0 +1,10 @@
+pub mod WidthLists
+pub mod Residues
+pub mod Weights
+pub mod Replacing
+pub mod LinearLaws
+pub mod FormLaws
+pub mod ListedForms
+pub mod ValueLaws
+pub mod FormValues
+pub mod Gathered

@@ -1,0 +1,3 @@
+pub mod Lower
+pub mod NodeLaws
+pub mod SheetLaws

@@ -1,0 +1,4 @@
+pub mod Environments
+pub mod Nodes
+pub mod Sheets
+pub mod Values

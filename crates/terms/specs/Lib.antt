@@ -1,0 +1,4 @@
+pub mod Rules
+pub mod Made
+pub mod Sheet
+pub mod Kept
