@@ -1,5 +1,5 @@
 -- Lanes that are set are read back.
-use Rattle.std.proofs.Common.{◌≡◌, ℕ, zero, suc, ◌+◌, ◌*◌, ◌/◌, ◌%◌, ◌^◌, ◌<◌, ◌≤◌, List, ◌++◌, take, drop, length, map, refl, sym, ◌∙◌, ap, arith, div-one}
+use Rattle.std.proofs.Common.{◌≡◌, ℕ, zero, suc, ◌+◌, ◌*◌, ◌/◌, ◌%◌, ◌^◌, ◌<◌, List, ◌++◌, take, drop, length, map, refl, sym, ◌∙◌, ap, arith, div-one}
 use Rattle.std.specs.List.{range_with_len}
 use Rattle.std.proofs.Math.Nat.{mod-one, mod-eq_of_lt}
 use Rattle.std.proofs.Math.Seq.{drop-append_seam, take-append_seam}
@@ -20,7 +20,7 @@ number_of_bytes v (suc n) a =
     let width : 8 * suc n ≡ 8 * n + 8 = omega arith in
     let next : 8 * (a + 1) ≡ 8 * a + 8 = omega arith in
     let rest : number (map (byte_of v) (range_with_len (a + 1) n)) ≡ v / 2 ^ (8 * a) / 2 ^ 8 % 2 ^ (8 * n) =
-        number_of_bytes v n (a + 1) ∙ rw (next, ← shr-shr v (8 * a) 8) refl in
+    number_of_bytes v n (a + 1) ∙ rw (next, ← shr-shr v (8 * a) 8) refl in
     let split : v / 2 ^ (8 * a) % 2 ^ (8 * n + 8) ≡ v / 2 ^ (8 * a) / 2 ^ 8 % 2 ^ (8 * n) * 2 ^ 8 + v / 2 ^ (8 * a) % 2 ^ 8 = mod-pow-add (v / 2 ^ (8 * a)) (8 * n) 8 in
     rw (width, rest) (omega arith)
 

@@ -173,7 +173,11 @@ fn long_case(n: &[u64]) -> Option<Case>
     requires { length n.now ≡ 16 }
     ensures { result ≡ long_case n.now }
 {
-    if n[0] < 4 { row_case(n) } else { vector_case(n) }
+    if n[0] < 4 {
+        row_case(n)
+    } else {
+        vector_case(n)
+    }
 }
 
 /// The case of numbers.

@@ -1,5 +1,5 @@
 -- Lanes that are set in turn.
-use Rattle.std.proofs.Common.{◌≡◌, ℕ, zero, suc, ◌+◌, ◌-◌, ◌*◌, ◌/◌, ◌<◌, ◌≤◌, List, [], ◌++◌, take, drop, length, refl, sym, ◌∙◌, ap, arith, add-one, append_assoc, length-append}
+use Rattle.std.proofs.Common.{◌≡◌, ℕ, zero, suc, ◌+◌, ◌-◌, ◌*◌, ◌/◌, List, [], ◌++◌, take, drop, length, refl, ◌∙◌, ap, arith, add-one, append_assoc, length-append}
 use Rattle.std.specs.Prelude.{replicate}
 use Rattle.std.proofs.Math.Seq.{drop-append-add, take-append_seam}
 use Rattle.std.proofs.lemmas.List.{drop-replicate}
@@ -35,7 +35,7 @@ lane_added w i v g e =
     let left : 32 - i * (w / 8) - w / 8 ≡ 32 - (i + 1) * (w / 8) = omega arith in
     let low : take (i * (w / 8)) (lanes_in_turn w g i ++ replicate (32 - i * (w / 8)) 0) ≡ lanes_in_turn w g i = front _ _ _ size in
     let high : drop (i * (w / 8) + w / 8) (lanes_in_turn w g i ++ replicate (32 - i * (w / 8)) 0) ≡ replicate (32 - (i + 1) * (w / 8)) 0 =
-        behind _ _ _ (w / 8) size ∙ drop-replicate (w / 8) (32 - i * (w / 8)) 0 ∙ ap (λ (n : ℕ). replicate n 0) left in
+    behind _ _ _ (w / 8) size ∙ drop-replicate (w / 8) (32 - i * (w / 8)) 0 ∙ ap (λ (n : ℕ). replicate n 0) left in
     rw (low, high, e, one_more w g i, append_assoc) refl
 
 -- no lanes, and zeros

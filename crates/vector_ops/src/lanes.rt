@@ -26,13 +26,7 @@ fn lane_value(op: VectorOp, w: u32, imm: u8, first: &Bytes32, second: &Bytes32, 
         VectorOp::Pmaddwd => product_sum(first, second, i),
         VectorOp::Psadbw => distance_sum(first, second, i),
         VectorOp::Pshufb => shuffled_byte(first, second, i),
-        VectorOp::Pmovmskb => {
-            if i == 0 {
-                byte_mask(second, w / 8)
-            } else {
-                0
-            }
-        }
+        VectorOp::Pmovmskb => { if i == 0 { byte_mask(second, w / 8) } else { 0 } }
         VectorOp::Vzeroupper => 0,
     }
 }

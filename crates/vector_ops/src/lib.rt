@@ -13,7 +13,6 @@ mod moves;
 mod rows;
 mod saturation;
 mod sums;
-
 mod widths;
 
 pub use lanes::vector;

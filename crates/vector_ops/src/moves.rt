@@ -88,7 +88,11 @@ fn selected_half(control: u32, j: u32) -> Source
 fn lowest(width: u32, i: u32) -> Source
     ensures { result ≡ rows.lowest width i }
 {
-    if i == 0 { Source::Second(width, 0) } else { Source::Zero }
+    if i == 0 {
+        Source::Second(width, 0)
+    } else {
+        Source::Zero
+    }
 }
 
 /// A byte of the half, shifted to the left by bytes.
@@ -230,7 +234,8 @@ pub fn moving(op: MoveOp, w: u32, imm: u8, first: &Bytes32, second: &Bytes32, i:
     requires row { rows.HasMoveWidths op × rows.IsMoveRow op w }
     requires vectors { (w ≡ 128) ⊎ (w ≡ 256) }
     requires place { i < w / rows.move_op_bits op }
-    ensures value { result ≡ value (λ j. sources.source_value first.now.bytes second.now.bytes (rows.move_source op imm i)) (rows.move_expr op) }
+    ensures value { let source = rows.move_source op imm i in
+        result ≡ value (λ j. sources.source_value first.now.bytes second.now.bytes source) (rows.move_expr op) }
     ensures below { result < 2 ^ rows.move_op_bits op }
 {
     let x = source_value(first, second, move_source(op, imm, i));

@@ -1,10 +1,9 @@
 -- The values of the rows whose parts are named one after another: the byte that `pshufb` picks, the highest bits that
 -- `pmovmskb` joins, and the distances that `psadbw` adds.
-use Rattle.std.proofs.Common.{◌≡◌, ◌≢◌, ◌⊎◌, ℕ, zero, suc, ◌+◌, ◌-◌, ◌*◌, ◌/◌, ◌%◌, ◌^◌, ◌<◌, ◌≤◌, ◌==◌, Bool, true, false, refl, sym, ◌∙◌, ap, subst, inl, inr, arith, add-one, add-zero, zero-add}
-use Rattle.std.specs.Prelude.{if◌then◌else◌}
+use Rattle.std.proofs.Common.{◌≡◌, ◌≢◌, ℕ, zero, suc, ◌+◌, ◌-◌, ◌*◌, ◌^◌, ◌<◌, ◌≤◌, refl, sym, ◌∙◌, ap, subst, inl, inr, arith, add-one, zero-add}
 use Rattle.std.proofs.lemmas.Bool.{cases_lt, cases_order, eq-eqb, ne_eqb}
 use Rattle.instruction_semantics.specs.Exprs.{Expr, Leaf, Let, value, with_leaf}
-use Rattle.instruction_semantics.specs.Words.{bit, choice, cut, equal, below, minus, plus}
+use Rattle.instruction_semantics.specs.Words.{choice, cut, equal, below, minus, plus}
 use Rattle.vector_semantics.specs.LaneRows.{zero_extended}
 use Rattle.vector_semantics.specs.Sources.{tops}
 use Rattle.vector_semantics.specs.VectorRows.{byte_distance, byte_mask, distances, distance_sum, picked, shuffled, tops_joined, with_tops}

@@ -1,4 +1,5 @@
 pub mod LaneRows
+pub mod LaneValues
 pub mod MoveRows
 pub mod Sources
 pub mod VectorRows

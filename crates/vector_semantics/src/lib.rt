@@ -7,6 +7,13 @@
 //! saturated to 8 bits: the sum of 100 and 100 is 127.
 #![tactic(auto)]
 
+mod laws;
 mod source;
 
+pub use laws::{
+    averages_round_up, chains_give_a_byte_and_a_mask, equal_lanes_give_ones,
+    halves_of_products_make_the_product, long_shifts_leave_zeros_or_the_sign,
+    pairs_in_order_move_nothing, pandn_complements_the_first, rows_take_the_least_and_the_greatest,
+    signed_rows_saturate, unpacked_lanes_stand_in_turn, unsigned_rows_saturate,
+};
 pub use source::Source;

@@ -1,4 +1,4 @@
-use Rattle.std.proofs.Common.{◌∙◌, ap, length, arith}
+use Rattle.std.proofs.Common.{length, arith}
 use Rattle.std.proofs.lemmas.List.FromFn.{fill_by_all}
 use Rattle.lane_views.specs.Lanes.{byte_of, bytes_of}
 use Rattle.lane_views.proofs.numbers.put_number.Goals as goal

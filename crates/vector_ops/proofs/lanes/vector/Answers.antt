@@ -11,10 +11,12 @@ loop-i-init c =
     (zeros c.result_bits-width.result (vectors.lane_value c.args.op c.args.w c.args.imm c.args.first.now.bytes c.args.second.now.bytes), refl)
 
 pub loop-i-preserved : goal.loop-i-preserved
-loop-i-preserved c =
-    (c.set_lane.ensures.bytes ∙ ap (with_lane c.result_bits-width.result c.loop-i.i c.lane_value.result) c.loop-i.invariant.0
-    ∙ lane_added c.result_bits-width.result c.loop-i.i c.lane_value.result
-    (vectors.lane_value c.args.op c.args.w c.args.imm c.args.first.now.bytes c.args.second.now.bytes) c.lane_value.ensures.value, c.set_lane.ensures.whole)
+loop-i-preserved c = (
+  c.set_lane.ensures.bytes ∙ ap (with_lane c.result_bits-width.result c.loop-i.i c.lane_value.result) c.loop-i.invariant.0
+      ∙ lane_added c.result_bits-width.result c.loop-i.i c.lane_value.result
+      (vectors.lane_value c.args.op c.args.w c.args.imm c.args.first.now.bytes c.args.second.now.bytes) c.lane_value.ensures.value,
+  c.set_lane.ensures.whole,
+)
 
 pub returns : goal.returns
 returns c =

@@ -1,4 +1,4 @@
-use Rattle.std.proofs.Common.{◌≡◌, ◌/◌, ◌<◌, sym, subst, true}
+use Rattle.std.proofs.Common.{sym, subst}
 use Rattle.vector_semantics.specs.MoveRows as rows
 use Rattle.vector_semantics.specs.Sources as sources
 use Rattle.vector_ops.proofs.Inside.{lanes_below, move_width, source_good}

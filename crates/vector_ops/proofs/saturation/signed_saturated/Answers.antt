@@ -17,5 +17,5 @@ returns-clause-value c =
     let grows : 2 ^ c.args.to ≤ 2 ^ c.args.from = power_grows c.args.to c.args.from (omega arith) in
     let word : 2 ^ (c.args.to - 1) < 2 ^ c.args.from = omega (arith, c.sign_bit-least.ensures.below) in
     let low : c.word_sub.result ≡ 2 ^ c.args.from - 2 ^ (c.args.to - 1) =
-        c.word_sub.ensures.value ∙ ap (minus c.args.from 0) least ∙ minus_from_zero c.args.from (2 ^ (c.args.to - 1)) some word in
+    c.word_sub.ensures.value ∙ ap (minus c.args.from 0) least ∙ minus_from_zero c.args.from (2 ^ (c.args.to - 1)) some word in
     rw (c.chosen.ensures.value, c.chosen-inside.ensures.value, c.is_signed_below-is_above.ensures, c.is_signed_below-is_below.ensures, c.low_bits.ensures.value, low, least, div-one) refl

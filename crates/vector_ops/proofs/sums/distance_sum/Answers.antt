@@ -1,8 +1,7 @@
-use Rattle.std.proofs.Common.{◌≡◌, ℕ, ◌+◌, ◌-◌, ◌*◌, refl, sym, ◌∙◌, ap, subst, arith, add-zero}
+use Rattle.std.proofs.Common.{◌≡◌, ℕ, ◌+◌, ◌-◌, ◌*◌, sym, ◌∙◌, ap, arith, add-zero}
 use Rattle.align_base.specs.declared.vector_op.VectorOp.TheVariants as ops
 use Rattle.instruction_semantics.specs.Exprs.{value}
-use Rattle.instruction_semantics.specs.Words.{below, choice, minus, plus}
-use Rattle.lane_views.specs.Lanes.{lane}
+use Rattle.instruction_semantics.specs.Words.{plus}
 use Rattle.vector_semantics.specs.VectorRows.{byte_distance, distances}
 use Rattle.vector_semantics.specs.Vectors.{row_leaves}
 use Rattle.vector_semantics.proofs.Chains.{distances_more}
@@ -18,9 +17,9 @@ pub loop-k-preserved : goal.loop-k-preserved
 loop-k-preserved c =
     let back : c.loop-k.k + 1 - 1 ≡ c.loop-k.k = omega arith in
     let more : c.distance-more.result ≡ value (row_leaves ops.Psadbw 0 c.args.first.now.bytes c.args.second.now.bytes c.args.i) (byte_distance c.loop-k.k) =
-        rw (c.distance-more.ensures, c.lane-in-loop-k.ensures.value, c.lane-in-loop-k-2.ensures.value) (sym (distance_at c.args.first.now.bytes c.args.second.now.bytes c.args.i c.loop-k.k (omega arith))) in
+    rw (c.distance-more.ensures, c.lane-in-loop-k.ensures.value, c.lane-in-loop-k-2.ensures.value) (sym (distance_at c.args.first.now.bytes c.args.second.now.bytes c.args.i c.loop-k.k (omega arith))) in
     let sum : plus 64 c.loop-k.sum c.distance-more.result ≡ plus 64 (value (row_leaves ops.Psadbw 0 c.args.first.now.bytes c.args.second.now.bytes c.args.i) (distances (c.loop-k.k - 1))) (value (row_leaves ops.Psadbw 0 c.args.first.now.bytes c.args.second.now.bytes c.args.i) (byte_distance c.loop-k.k)) =
-        λ j. plus 64 (c.loop-k.invariant j) (more j) in
+    λ j. plus 64 (c.loop-k.invariant j) (more j) in
     c.word_add-sum.ensures.value ∙ sum ∙ sym (distances_more (row_leaves ops.Psadbw 0 c.args.first.now.bytes c.args.second.now.bytes c.args.i) c.loop-k.k (omega arith))
     ∙ ap (λ (n : ℕ). value (row_leaves ops.Psadbw 0 c.args.first.now.bytes c.args.second.now.bytes c.args.i) (distances n)) (sym back)
 

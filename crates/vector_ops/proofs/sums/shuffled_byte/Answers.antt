@@ -1,4 +1,4 @@
-use Rattle.std.proofs.Common.{◌≡◌, ◌<◌, ◌≤◌, refl, sym, ◌∙◌, ap, arith}
+use Rattle.std.proofs.Common.{◌≡◌, refl, sym, ◌∙◌, ap, arith}
 use Rattle.instruction_semantics.specs.Words.{cut}
 use Rattle.lane_views.specs.Lanes.{lane}
 use Rattle.vector_ops.proofs.LaneSums.{shuffled_at, top_of_high, top_of_low}
