@@ -34,9 +34,6 @@ module _ (old new : ℕ → ℕ) where
   same_number : (a b : ℕ) → (a < b → ⊥) → (b < a → ⊥) → a ≡ b
   same_number a b f g = omega arith
 
-
-
-
   one_list : (from : ℕ) (ps qs : List (ℕ × ℕ)) → ArePieces old new from ps → ArePieces old new from qs → ps ≡ qs
   one_list from [] [] are be = refl
   one_list from [] (q ∷ qs) are be = absurd (no_piece from q.0 q.1 be.0 be.2 are)

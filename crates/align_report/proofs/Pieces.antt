@@ -13,21 +13,32 @@ piece_lines-append memory (p ∷ ps) qs = ap (λ t. piece_line memory p.0 p.1 ++
 
 module _ (old new : ℕ → ℕ) where
   pieces_gap : (a b c : ℕ) (ps : List (ℕ × ℕ)) → ArePiecesTo old new a ps b → b ≤ c → SameFrom old new b c → ArePiecesTo old new a ps c
-  pieces_gap a b c [] are less same = (omega (arith, are.0), λ x low high. elim (cases_lt x b) [
-    | inl before ↦ are.1 x low before
-    | inr behind ↦ same x behind high
-  ])
+  pieces_gap a b c [] are less same = (
+    omega (arith, are.0),
+    λ x low high. elim (cases_lt x b) [
+      | inl before ↦ are.1 x low before
+      | inr behind ↦ same x behind high
+    ],
+  )
   pieces_gap a b c (p ∷ ps) are less same = (are.0, are.1, are.2, pieces_gap (p.0 + p.1) b c ps are.3 less same)
 
   later_begin : (a b c : ℕ) (ps : List (ℕ × ℕ)) → a ≤ b → SameFrom old new a b → ArePiecesTo old new b ps c → ArePiecesTo old new a ps c
-  later_begin a b c [] less same are = (omega (arith, are.0), λ x low high. elim (cases_lt x b) [
-    | inl before ↦ same x low before
-    | inr behind ↦ are.1 x behind high
-  ])
-  later_begin a b c (p ∷ ps) less same are = (omega (arith, are.0), (λ x low high. elim (cases_lt x b) [
-    | inl before ↦ same x low before
-    | inr behind ↦ are.1 x behind high
-  ]), are.2, are.3)
+  later_begin a b c [] less same are = (
+    omega (arith, are.0),
+    λ x low high. elim (cases_lt x b) [
+      | inl before ↦ same x low before
+      | inr behind ↦ are.1 x behind high
+    ],
+  )
+  later_begin a b c (p ∷ ps) less same are = (
+    omega (arith, are.0),
+    (λ x low high. elim (cases_lt x b) [
+      | inl before ↦ same x low before
+      | inr behind ↦ are.1 x behind high
+    ]),
+    are.2,
+    are.3,
+  )
 
   pieces_join : (a b c : ℕ) (ps qs : List (ℕ × ℕ)) → ArePiecesTo old new a ps b → ArePiecesTo old new b qs c → ArePiecesTo old new a (ps ++ qs) c
   pieces_join a b c [] qs are more = later_begin a b c qs are.0 are.1 more

@@ -106,9 +106,13 @@ pub reports_more : (f : Function) (a : Admission) (steps k n : ℕ) (ts : List T
 reports_more f a steps k n [] t text here are same is =
     let e : n ≡ k = omega (arith, same) in
     (here, [], rw are (sym (append-nil here)), subst (λ j. IsTestReport f a steps j t here) e is, refl)
-reports_more f a steps k n (s ∷ ss) t text here are same is =
-    (are.0, are.1 ++ here, ap (λ u. u ++ here) are.2 ∙ append_assoc are.0 are.1 here, are.3,
-    reports_more f a steps (k + 1) n ss t are.1 here are.4 (omega (arith, same)) is)
+reports_more f a steps k n (s ∷ ss) t text here are same is = (
+  are.0,
+  are.1 ++ here,
+  ap (λ u. u ++ here) are.2 ∙ append_assoc are.0 are.1 here,
+  are.3,
+  reports_more f a steps (k + 1) n ss t are.1 here are.4 (omega (arith, same)) is,
+)
 
 -- the report of a test that has no start state
 pub refused : (f : Function) (a : Admission) (steps k : ℕ) (t : Test) (e : LoadRefusal) (before after : List ℕ) (r : Result (Unit {0}) Memory) → IsRefused a t e

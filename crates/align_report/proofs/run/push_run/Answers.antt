@@ -25,7 +25,7 @@ push_changes-requires-clause-same c =
 pub returns : goal.returns
 returns c =
     let run : run_of (step_of c.args.f.now.insns c.args.f.now.pool) (start_of c.args.admission.now c.args.test.now) c.args.steps ≡ (pure_of c.run-end.new.self, c.run-end.result) =
-        ap (λ (s : Machine). run_of (step_of c.args.f.now.insns c.args.f.now.pool) s c.args.steps) (sym (c.in_ok-state.ensures.pure ∙ c.requires.start)) ∙ c.run-end.ensures.runs in
+    ap (λ (s : Machine). run_of (step_of c.args.f.now.insns c.args.f.now.pool) s c.args.steps) (sym (c.in_ok-state.ensures.pure ∙ c.requires.start)) ∙ c.run-end.ensures.runs in
     elim c.match-end.branch [
       | in-Returned+in_ok-push_outputs+in_ok-ranges+in_ok-push_changes w ↦ rw w.out-is
           (returned c.args.f.now c.args.admission.now c.args.steps c.args.k w.in-Returned.field-0 c.args.test.now (pure_of c.run-end.new.self)
