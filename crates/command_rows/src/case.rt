@@ -56,7 +56,11 @@ fn numbers_of(alloc: Global, field: &str) -> Result<Vec<u64>, Memory> {
 /// How the case of a line ended. Its fields, with a tabulator between them, are: a name, the
 /// arguments, the numbers of the calls of the shelf that fail, those of the sink, the status, the
 /// report, and then the name and the text of each file.
-pub(crate) fn outcome_of<R: Threads + Sync>(rt: &R, alloc: Global, line: &str) -> Result<Outcome, Memory> {
+pub(crate) fn outcome_of<R: Threads + Sync>(
+    rt: &R,
+    alloc: Global,
+    line: &str,
+) -> Result<Outcome, Memory> {
     let mut fields = line.split('\t').skip(1);
     let (Some(arguments), Some(shelf_fails), Some(sink_fails)) = (
         fields.next(),
