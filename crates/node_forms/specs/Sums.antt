@@ -46,7 +46,7 @@ abbrev pub AreAtoms : List Node → ℕ → List (NodeId × ℕ) → Type 0
 AreAtoms ns w =
     AllByRecursion
     (λ p. (p.0.0 < length ns) × (w ≤ width_at ns p.0.0)
-        × (linearity ns (width_at ns) w (node_at ns p.0.0) ≡ Atom) × (0 < p.1) × (p.1 < 2 ^ w))
+    × (linearity ns (width_at ns) w (node_at ns p.0.0) ≡ Atom) × (0 < p.1) × (p.1 < 2 ^ w))
 
 -- one of the first n nodes that has w bits or more
 abbrev pub IsWide : (ℕ → ℕ) → ℕ → ℕ → NodeId → Type 0
