@@ -66,12 +66,14 @@ pub fn align_main<R: Threads + Sync, G: Gate + Sync, F: Shelf, O: Sink>(
 ) -> Status
     // The command was carried out, and what its report says is so: of `decide`, that the functions in
     // the files are equivalent within the printed bound, or that both return from the printed state
-    // with different %rax.
+    // with different %rax; of `run`, that the report is that of the runs.
     ensures good { result ≡ Status.Good
-        → Given (λ report. OfCommand arguments.now (λ command. Finishes command Status.Good (F.account shelf.old) (F.account shelf.new) report))
+        → Given (λ report. OfCommand arguments.now (λ command.
+        Finishes command Status.Good (F.account shelf.old) (F.account shelf.new) report))
         (O.account out.old) (O.account out.new) }
     ensures negative { result ≡ Status.Negative
-        → Given (λ report. OfCommand arguments.now (λ command. Finishes command Status.Negative (F.account shelf.old) (F.account shelf.new) report))
+        → Given (λ report. OfCommand arguments.now (λ command.
+        Finishes command Status.Negative (F.account shelf.old) (F.account shelf.new) report))
         (O.account out.old) (O.account out.new) }
     ensures known { result ≢ Status.Unknown }
 

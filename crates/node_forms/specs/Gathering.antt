@@ -18,10 +18,14 @@ pub record Gathering : Type 0 where
 -- q times node i, which is made so, goes to the parts
 abbrev pub replaced : ℕ → NodeId → ℕ → Linear → Gathering → Gathering
 replaced w i q Atom s = record { pending = s.pending; atoms = s.atoms ++ (i, q) ∷ []; constant = s.constant }
-replaced w i q (Number v) s = record { pending = s.pending; atoms = s.atoms; constant = plus w s.constant (times w q (v % 2 ^ w)) }
-replaced w i q (Times a v) s = record { pending = with_weight w a (times w q (v % 2 ^ w)) s.pending; atoms = s.atoms; constant = s.constant }
-replaced w i q (Plus a b) s = record { pending = with_weight w b q (with_weight w a q s.pending); atoms = s.atoms; constant = s.constant }
-replaced w i q (Minus a b) s = record { pending = with_weight w b (minus w 0 q) (with_weight w a q s.pending); atoms = s.atoms; constant = s.constant }
+replaced w i q (Number v) s =
+    record { pending = s.pending; atoms = s.atoms; constant = plus w s.constant (times w q (v % 2 ^ w)) }
+replaced w i q (Times a v) s =
+    record { pending = with_weight w a (times w q (v % 2 ^ w)) s.pending; atoms = s.atoms; constant = s.constant }
+replaced w i q (Plus a b) s =
+    record { pending = with_weight w b q (with_weight w a q s.pending); atoms = s.atoms; constant = s.constant }
+replaced w i q (Minus a b) s =
+    record { pending = with_weight w b (minus w 0 q) (with_weight w a q s.pending); atoms = s.atoms; constant = s.constant }
 
 -- parts of a sum at w: nodes of the list with as many bits, and coefficients below 2^w
 abbrev pub AreParts : List Node → ℕ → List (NodeId × ℕ) → Type 0

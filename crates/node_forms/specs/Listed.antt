@@ -17,4 +17,6 @@ pub record IsListed (n w : ℕ) (form : LinearForm) (listed : Form) : Type 0 whe
 -- whether two nodes' forms at w differ by a constant, and whether it is 0
 abbrev pub TellsDifference : List Node → ℕ → ℕ → ℕ → Option ℕ → Type 0
 TellsDifference ns w a b None = differ_by_constant ns w a b ≡ false
-TellsDifference ns w a b (Some c) = (differ_by_constant ns w a b ≡ true) × ((c == 0) ≡ ((form_at ns w a).constant == (form_at ns w b).constant))
+TellsDifference ns w a b (Some c) =
+    (differ_by_constant ns w a b ≡ true)
+    × ((c == 0) ≡ ((form_at ns w a).constant == (form_at ns w b).constant))

@@ -43,7 +43,10 @@ AreFalling end (p ∷ ps) = (p.0.0 < end) × AreFalling p.0.0 ps
 
 -- atoms of a list of nodes at w: each an atom of as many bits, with a coefficient from 1 below 2^w
 abbrev pub AreAtoms : List Node → ℕ → List (NodeId × ℕ) → Type 0
-AreAtoms ns w = AllByRecursion (λ p. (p.0.0 < length ns) × (w ≤ width_at ns p.0.0) × (linearity ns (width_at ns) w (node_at ns p.0.0) ≡ Atom) × (0 < p.1) × (p.1 < 2 ^ w))
+AreAtoms ns w =
+    AllByRecursion
+    (λ p. (p.0.0 < length ns) × (w ≤ width_at ns p.0.0)
+    × (linearity ns (width_at ns) w (node_at ns p.0.0) ≡ Atom) × (0 < p.1) × (p.1 < 2 ^ w))
 
 -- one of the first n nodes that has w bits or more
 abbrev pub IsWide : (ℕ → ℕ) → ℕ → ℕ → NodeId → Type 0

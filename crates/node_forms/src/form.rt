@@ -41,7 +41,8 @@ pub fn form_of(
     requires width { (0 < w) × (w ≤ width_at nodes.now at.0) }
     requires place { at.0 < length nodes.now }
     ensures form { IfOk result (IsListed (length nodes.now) w (form_at nodes.now w at.0)) }
-    ensures value { IfOk result (λ form. (e : Environment) → SameWord w (value_at e nodes.now at.0) (weighted_sum (value_at e nodes.now) form.atoms + form.c)) }
+    ensures value { IfOk result (λ form. (e : Environment)
+        → SameWord w (value_at e nodes.now at.0) (weighted_sum (value_at e nodes.now) form.atoms + form.c)) }
 {
     let mut pending = Vec::new(alloc);
     pending.push((at, 1))?;
@@ -92,7 +93,8 @@ fn gather(
     ensures falling { IfOk result (λ form. AreFalling (length nodes.now) form.atoms) }
     ensures atoms { IfOk result (λ form. AreAtoms nodes.now w form.atoms) }
     ensures constant { IfOk result (λ form. form.c < 2 ^ w) }
-    ensures sum { IfOk result (λ form. (k : ℕ) (f : ℕ → ℕ) → IsLinear nodes.now w k f → SameWord w (weighted_sum f form.atoms + k * form.c) (weighted_sum f pending.items)) }
+    ensures sum { IfOk result (λ form. (k : ℕ) (f : ℕ → ℕ) → IsLinear nodes.now w k f
+        → SameWord w (weighted_sum f form.atoms + k * form.c) (weighted_sum f pending.items)) }
 {
     let mut atoms = Vec::new(alloc);
     let mut c = 0;
@@ -127,7 +129,10 @@ fn step(
     requires weight { q < 2 ^ w }
     requires constant { c < 2 ^ w }
     requires words { AllByRecursion (λ p. p.1 < 2 ^ w) pending.old.items }
-    ensures { IfOk result (λ after. replaced w node q (linearity nodes.now (slice_index widths.now) w (node_at nodes.now node.0)) (record { pending = pending.old.items; atoms = atoms.old.items; constant = c }) ≡ record { pending = pending.new.items; atoms = atoms.new.items; constant = after }) }
+    ensures { IfOk result (λ after.
+        replaced w node q (linearity nodes.now (slice_index widths.now) w (node_at nodes.now node.0))
+        (record { pending = pending.old.items; atoms = atoms.old.items; constant = c })
+        ≡ record { pending = pending.new.items; atoms = atoms.new.items; constant = after }) }
 {
     match linearity_of(nodes, widths, w, nodes[node.0 as usize]) {
         Linear::Atom => atoms.push((node, q))?,

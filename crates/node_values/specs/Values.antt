@@ -45,4 +45,6 @@ node_value e widths values (Entry r) = e.entry r % 2 ^ 64
 node_value e widths values (VecByte side r i) = e.vecs side r i % 2 ^ 8
 node_value e widths values (Start side at) = e.memory side (values at.0) % 2 ^ 8
 node_value e widths values Probe = e.probe % 2 ^ 64
-node_value e widths values n = operation widths n (values (slice_index (arguments n) 0)) (values (slice_index (arguments n) 1)) (values (slice_index (arguments n) 2))
+node_value e widths values n =
+    operation widths n
+    (values (slice_index (arguments n) 0)) (values (slice_index (arguments n) 1)) (values (slice_index (arguments n) 2))

@@ -100,7 +100,8 @@ impl Sheet {
     pub fn build(&mut self, node: Node) -> Result<NodeId, SheetFull>
         requires { IsNode (width_at self.old) (length self.old) node }
         ensures made { IfOk result (λ id. made self.old node ≡ record { nodes = self.new; id = id }) }
-        ensures value { IfOk result (λ id. (e : Environment) → value_at e self.new id.0 ≡ node_value e (width_at self.old) (value_at e self.old) node) }
+        ensures value { IfOk result (λ id. (e : Environment)
+            → value_at e self.new id.0 ≡ node_value e (width_at self.old) (value_at e self.old) node) }
         ensures width { IfOk result (λ id. width_at self.new id.0 ≡ node_width (width_at self.old) node) }
         ensures inside { IfOk result (λ id. id.0 < length self.new) }
         ensures extends { Extends self.old self.new }
@@ -153,7 +154,8 @@ impl Sheet {
         requires place { id.0 < length self.now }
         requires width { (0 < w) × (w ≤ width_at self.now id.0) }
         ensures form { IfOk result (IsListed (length self.now) w (form_at self.now w id.0)) }
-        ensures value { IfOk result (λ form. (e : Environment) → SameWord w (value_at e self.now id.0) (weighted_sum (value_at e self.now) form.atoms + form.c)) }
+        ensures value { IfOk result (λ form. (e : Environment)
+            → SameWord w (value_at e self.now id.0) (weighted_sum (value_at e self.now) form.atoms + form.c)) }
     {
         form_of(
             self.alloc,
@@ -177,7 +179,8 @@ fn node_in(nodes: &[Node], at: usize) -> Node
 fn values(alloc: Global, nodes: &[Node], widths: &[u32], env: &Env) -> Result<Vec<u64>, Memory>
     requires { IsWidthList nodes.now widths.now }
     ensures len { IfOk result (λ values. length values.items ≡ length nodes.now) }
-    ensures values { IfOk result (λ values. (i : ℕ) → i < length nodes.now → slice_index values.items i ≡ value_at (environment_of env.now) nodes.now i) }
+    ensures values { IfOk result (λ values. (i : ℕ) → i < length nodes.now
+        → slice_index values.items i ≡ value_at (environment_of env.now) nodes.now i) }
 {
     let mut values = Vec::new(alloc);
     for i in 0..nodes.len() {

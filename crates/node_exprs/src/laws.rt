@@ -1,0 +1,15 @@
+//! The law of expressions that are built into a sheet. The function does nothing; its contract is the law.
+ghost use Rattle.std.specs.Prelude.{ℕ, ◌<◌, List, length};
+ghost use Rattle.instruction_semantics.specs.Exprs.{Expr};
+ghost use Rattle.node_exprs.specs.Building.{HasValue, IsFormed, built};
+ghost use Rattle.node_values.specs.Sheets.{IsSheet, width_at};
+ghost use Rattle.node_values.specs.declared.node.Node.{Node};
+ghost use Rattle.node_values.specs.declared.node.NodeId.{NodeId};
+
+/// An expression whose widths agree, built into a sheet over nodes of the sheet, has its value there in
+/// every environment; the older nodes stay.
+pub fn expressions_have_their_values()
+    ensures { (ns : List Node) (leaves : ℕ → NodeId) (x : Expr) → IsSheet ns
+        → ((i : ℕ) → (leaves i).0 < length ns) → IsFormed (λ i. width_at ns (leaves i).0) x
+        → HasValue ns leaves x (built ns leaves x) }
+{}
