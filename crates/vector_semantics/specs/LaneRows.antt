@@ -27,11 +27,13 @@ unsigned_saturation m w x =
 -- an operator on both lanes with one or two bits more, saturated
 abbrev pub signed_saturated : Operator → ℕ → Expr
 signed_saturated operator w =
-    Let 2 (Two operator (w + 1) (Extended w (w + 1) (Leaf 0)) (Extended w (w + 1) (Leaf 1))) (signed_saturation (w + 1) w (Leaf 2))
+    Let 2 (Two operator (w + 1) (Extended w (w + 1) (Leaf 0)) (Extended w (w + 1) (Leaf 1)))
+    (signed_saturation (w + 1) w (Leaf 2))
 
 abbrev pub unsigned_saturated : Operator → ℕ → Expr
 unsigned_saturated operator w =
-    Let 2 (Two operator (w + 2) (zero_extended w (w + 2) (Leaf 0)) (zero_extended w (w + 2) (Leaf 1))) (unsigned_saturation (w + 2) w (Leaf 2))
+    Let 2 (Two operator (w + 2) (zero_extended w (w + 2) (Leaf 0)) (zero_extended w (w + 2) (Leaf 1)))
+    (unsigned_saturation (w + 2) w (Leaf 2))
 
 -- the low half of a lane of 64 bits, as 64 bits
 abbrev pub low_half : Expr → Expr

@@ -30,7 +30,8 @@ signed_product i j = Two Times 32 (Extended 16 32 (Leaf i)) (Extended 16 32 (Lea
 -- how far bytes k of the two arguments are apart, as 64 bits; leaf 16 names it
 abbrev pub byte_distance : ℕ → Expr
 byte_distance k =
-    Let 16 (Choice (Two Below 8 (Leaf k) (Leaf (8 + k))) (Two Minus 8 (Leaf (8 + k)) (Leaf k)) (Two Minus 8 (Leaf k) (Leaf (8 + k))))
+    Let 16 (Choice (Two Below 8 (Leaf k) (Leaf (8 + k)))
+    (Two Minus 8 (Leaf (8 + k)) (Leaf k)) (Two Minus 8 (Leaf k) (Leaf (8 + k))))
     (zero_extended 8 64 (Leaf 16))
 
 -- the sum of the distances of bytes 0 to k
@@ -47,7 +48,8 @@ distance_sum = distances 7
 abbrev pub picked : ℕ → ℕ → ℕ → Expr
 picked zero n so_far = Leaf so_far
 picked (suc left) n so_far =
-    Let (16 + n) (Choice (Two Equal 4 (Cut (Leaf 0) 0 4) (Number 4 n)) (Leaf (1 + n)) (Leaf so_far)) (picked left (n + 1) (16 + n))
+    Let (16 + n) (Choice (Two Equal 4 (Cut (Leaf 0) 0 4) (Number 4 n)) (Leaf (1 + n)) (Leaf so_far))
+    (picked left (n + 1) (16 + n))
 
 -- zero where leaf 0 has its highest bit set, and else the byte that its low four bits number
 unfoldable pub shuffled : Expr

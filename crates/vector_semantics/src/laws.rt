@@ -50,9 +50,11 @@ pub fn equal_lanes_give_ones()
 pub fn rows_take_the_least_and_the_greatest()
     ensures least { (l : LaneWidth) (k a b : ℕ) → lane_of (lane_ops.Pminu l) k a b ≡ min a b }
     ensures greatest { (l : LaneWidth) (k a b : ℕ) → lane_of (lane_ops.Pmaxu l) k a b ≡ max a b }
-    ensures signed_least { (l : LaneWidth) (k a b : ℕ) → a < 2 ^ bits l → b < 2 ^ bits l → lane_of (lane_ops.Pmins l) k a b
+    ensures signed_least { (l : LaneWidth) (k a b : ℕ) → a < 2 ^ bits l → b < 2 ^ bits l
+        → lane_of (lane_ops.Pmins l) k a b
         ≡ (if int_lt (signed_number (bits l) a) (signed_number (bits l) b) then a else b) }
-    ensures signed_greatest { (l : LaneWidth) (k a b : ℕ) → a < 2 ^ bits l → b < 2 ^ bits l → lane_of (lane_ops.Pmaxs l) k a b
+    ensures signed_greatest { (l : LaneWidth) (k a b : ℕ) → a < 2 ^ bits l → b < 2 ^ bits l
+        → lane_of (lane_ops.Pmaxs l) k a b
         ≡ (if int_lt (signed_number (bits l) a) (signed_number (bits l) b) then b else a) }
 {}
 
@@ -84,13 +86,17 @@ pub fn pairs_in_order_move_nothing()
 /// The low and the high unpacking together have each lane of both arguments once: in half h lane j of the low or the
 /// high lanes stands at 2 * j, of the second argument at 2 * j + 1.
 pub fn unpacked_lanes_stand_in_turn()
-    ensures low_first { (l : LaneWidth) (k h j : ℕ) → j < lanes_in_half (bits l) / 2 → move_source (move_ops.Punpckl l) k (lanes_in_half (bits l) * h + 2 * j)
+    ensures low_first { (l : LaneWidth) (k h j : ℕ) → j < lanes_in_half (bits l) / 2
+        → move_source (move_ops.Punpckl l) k (lanes_in_half (bits l) * h + 2 * j)
         ≡ First (bits l) (lanes_in_half (bits l) * h + j) }
-    ensures low_second { (l : LaneWidth) (k h j : ℕ) → j < lanes_in_half (bits l) / 2 → move_source (move_ops.Punpckl l) k (lanes_in_half (bits l) * h + (2 * j + 1))
+    ensures low_second { (l : LaneWidth) (k h j : ℕ) → j < lanes_in_half (bits l) / 2
+        → move_source (move_ops.Punpckl l) k (lanes_in_half (bits l) * h + (2 * j + 1))
         ≡ Second (bits l) (lanes_in_half (bits l) * h + j) }
-    ensures high_first { (l : LaneWidth) (k h j : ℕ) → j < lanes_in_half (bits l) / 2 → move_source (move_ops.Punpckh l) k (lanes_in_half (bits l) * h + 2 * j)
+    ensures high_first { (l : LaneWidth) (k h j : ℕ) → j < lanes_in_half (bits l) / 2
+        → move_source (move_ops.Punpckh l) k (lanes_in_half (bits l) * h + 2 * j)
         ≡ First (bits l) (lanes_in_half (bits l) * h + (lanes_in_half (bits l) / 2 + j)) }
-    ensures high_second { (l : LaneWidth) (k h j : ℕ) → j < lanes_in_half (bits l) / 2 → move_source (move_ops.Punpckh l) k (lanes_in_half (bits l) * h + (2 * j + 1))
+    ensures high_second { (l : LaneWidth) (k h j : ℕ) → j < lanes_in_half (bits l) / 2
+        → move_source (move_ops.Punpckh l) k (lanes_in_half (bits l) * h + (2 * j + 1))
         ≡ Second (bits l) (lanes_in_half (bits l) * h + (lanes_in_half (bits l) / 2 + j)) }
 {}
 
