@@ -16,6 +16,7 @@ abbrev pub output_value : Machine → Output → List ℕ
 output_value s (Reg n w) = value_text (slice_index s.regs n % 2 ^ w)
 output_value s (Vec n w) = bytes_text (take (w / 8) (get_or s.vecs n []))
 
+-- the line of a live output: its name and what it holds
 unfoldable pub output_line : Machine → Output → List ℕ
 output_line s output = output_name output ++ codes " " ++ output_value s output ++ codes "\n"
 

@@ -20,6 +20,7 @@ pub record Line : Type 0 where
   pub options : List Valued
   pub plain : List (List ℕ)
 
+-- the byte `=`
 abbrev pub is_equals : ℕ → Bool
 is_equals b = b == 61
 

@@ -21,6 +21,7 @@ operator_node exprs.Equal a b = nodes.Eq a b
 operator_node exprs.Below a b = nodes.Ult a b
 operator_node exprs.SignedBelow a b = nodes.Slt a b
 
+-- a shift of a node by k bits
 abbrev pub shift_node : exprs.Shift → NodeId → ℕ → Node
 shift_node exprs.Left a k = nodes.Shl a k
 shift_node exprs.Right a k = nodes.Shr a k

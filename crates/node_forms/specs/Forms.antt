@@ -12,6 +12,7 @@ pub record LinearForm : Type 0 where
   pub coefficient : ℕ → ℕ
   pub constant : ℕ
 
+-- the form of nothing: no atom, and the constant 0
 abbrev pub no_form : LinearForm
 no_form = record { coefficient = λ atom. 0; constant = 0 }
 

@@ -65,5 +65,6 @@ Follows w k f i (Times a c) = SameWord w (f i) (c * f a.0)
 Follows w k f i (Plus a b) = SameWord w (f i) (f a.0 + f b.0)
 Follows w k f i (Minus a b) = SameWord w (f i + f b.0) (f a.0)
 
+-- the words of all nodes of at least w bits follow from those of their arguments
 abbrev pub IsLinear : List Node → ℕ → ℕ → (ℕ → ℕ) → Type 0
 IsLinear ns w k f = (i : ℕ) → i < length ns → w ≤ width_at ns i → Follows w k f i (linearity ns (width_at ns) w (node_at ns i))

@@ -5,6 +5,7 @@ use Rattle.align_base.specs.declared.status.Side.TheVariants.{Left, Right}
 use Rattle.node_values.specs.declared.env.Env.{Env}
 use Rattle.node_values.specs.Values.{Environment}
 
+-- the place of a side's values in an environment's arrays
 abbrev pub side_number : Side → ℕ
 side_number Left = 0
 side_number Right = 1

@@ -94,10 +94,12 @@ vector_operation kind number =
 abbrev pub vector_from : List ℕ → ℕ → Bytes32
 vector_from ns i = record { bytes = lanes_in_turn 64 (λ k. slice_index ns (i + k)) 4 }
 
+-- the case of a vector operation: the width, the immediate, both arguments and the result
 abbrev pub vector_row : List ℕ → VectorOp → Case
 vector_row ns op =
     Vector (slice_index ns 1) op (slice_index ns 2) (slice_index ns 3) (vector_from ns 4) (vector_from ns 8) (vector_from ns 12)
 
+-- the case that 16 numbers are, where the width and the immediate are in their ranges
 abbrev pub vector_case : List ℕ → Option Case
 vector_case ns =
     if nat_lt (slice_index ns 2) 257 && nat_lt (slice_index ns 3) 256

@@ -21,9 +21,11 @@ pub record Made : Type 0 where
 abbrev pub with_node : List Node → Node → List Node
 with_node ns n = if list_any (is_same n) ns then ns else ns ++ n ∷ []
 
+-- the number of a node: where it stands, or the next one
 abbrev pub number_of : List Node → Node → ℕ
 number_of ns n = position_or_len (is_same n) ns
 
+-- a sheet with a node that is there, or with a new one
 abbrev pub placed : List Node → Reduced → Made
 placed ns (Old a) = record { nodes = ns; id = a }
 placed ns (New n) = record { nodes = with_node ns n; id = record { 0 = number_of ns n } }

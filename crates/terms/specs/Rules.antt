@@ -29,9 +29,11 @@ use Rattle.terms.specs.declared.rules.Reduced.TheVariants.{Old, New}
 abbrev pub is_constant : List Node → ℕ → Bool
 is_constant ns i = is_some (constant_of (node_at ns i))
 
+-- the number that a constant is, and 0 of another node
 abbrev pub number_at : List Node → ℕ → ℕ
 number_at ns i = unwrap_or (constant_of (node_at ns i)) 0
 
+-- the node is the constant v
 abbrev pub is_number : List Node → ℕ → ℕ → Bool
 is_number ns v i = is_constant ns i && (number_at ns i == v)
 
@@ -40,6 +42,7 @@ abbrev pub are_constants : List Node → List ℕ → Bool
 are_constants ns [] = false
 are_constants ns (i ∷ is) = list_all (is_constant ns) (i ∷ is)
 
+-- rule 1 applies: but for a byte of memory
 abbrev pub is_folded : List Node → Node → Bool
 is_folded ns (Start side at) = false
 is_folded ns n = are_constants ns (arguments n)
@@ -53,6 +56,7 @@ cut_of _ = None
 abbrev pub in_order : NodeId → NodeId → NodeId × NodeId
 in_order a b = if nat_le a.0 b.0 then (a, b) else (b, a)
 
+-- rule 8: the node of two arguments in order
 abbrev pub ordered : (NodeId → NodeId → Node) → NodeId → NodeId → Reduced
 ordered operator a b = New (operator (in_order a b).0 (in_order a b).1)
 

@@ -19,6 +19,7 @@ signed_saturation m w x =
     Choice (Two SignedBelow m (Number m (2 ^ (w - 1) - 1)) x) (Number w (2 ^ (w - 1) - 1))
     (Choice (Two SignedBelow m x (Number m (2 ^ m - 2 ^ (w - 1)))) (Number w (2 ^ (w - 1))) (Cut x 0 w))
 
+-- x of m bits, saturated to w bits without a sign
 abbrev pub unsigned_saturation : ℕ → ℕ → Expr → Expr
 unsigned_saturation m w x =
     Choice (Two SignedBelow m x (Number m 0)) (Number w 0)
@@ -30,6 +31,7 @@ signed_saturated operator w =
     Let 2 (Two operator (w + 1) (Extended w (w + 1) (Leaf 0)) (Extended w (w + 1) (Leaf 1)))
     (signed_saturation (w + 1) w (Leaf 2))
 
+-- a sum or a difference of lanes without a sign, saturated
 abbrev pub unsigned_saturated : Operator → ℕ → Expr
 unsigned_saturated operator w =
     Let 2 (Two operator (w + 2) (zero_extended w (w + 2) (Leaf 0)) (zero_extended w (w + 2) (Leaf 1)))
@@ -43,6 +45,7 @@ low_half x = Let 2 (Cut x 0 32) (zero_extended 32 64 (Leaf 2))
 abbrev pub shifted_left : ℕ → ℕ → Expr
 shifted_left w k = if k == 0 then Leaf 1 else (if nat_lt k w then Shifted Left w (Leaf 1) k else Number w 0)
 
+-- a lane shifted right by k bits, zeros coming in
 abbrev pub shifted_right : ℕ → ℕ → Expr
 shifted_right w k = if k == 0 then Leaf 1 else (if nat_lt k w then Shifted Right w (Leaf 1) k else Number w 0)
 
@@ -60,6 +63,7 @@ average w =
 abbrev pub magnitude : ℕ → Expr
 magnitude w = Choice (Two SignedBelow w (Leaf 1) (Number w 0)) (Two Minus w (Number w 0) (Leaf 1)) (Leaf 1)
 
+-- what a lane of the result is, of the lanes at its place
 abbrev pub lane_expr : LaneOp → ℕ → Expr
 lane_expr (ops.Padd l) k = Two Plus (bits l) (Leaf 0) (Leaf 1)
 lane_expr (ops.Psub l) k = Two Minus (bits l) (Leaf 0) (Leaf 1)

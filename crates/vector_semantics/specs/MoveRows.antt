@@ -52,6 +52,7 @@ four_bits k place = cut k place 4
 abbrev pub left_byte : ℕ → ℕ → Source
 left_byte k i = if nat_lt (i % 16) k then Zero else Second 8 (i - k)
 
+-- byte i where bytes move right by k within their half
 abbrev pub right_byte : ℕ → ℕ → Source
 right_byte k i = if nat_lt (i % 16 + k) 16 then Second 8 (i + k) else Zero
 
@@ -59,6 +60,7 @@ right_byte k i = if nat_lt (i % 16 + k) 16 then Second 8 (i + k) else Zero
 abbrev pub low_word : ℕ → ℕ → Source
 low_word k i = if nat_lt (i % 8) 4 then Second 16 (8 * (i / 8) + pair k (i % 8)) else Second 16 i
 
+-- word i where the high four words of each half are chosen
 abbrev pub high_word : ℕ → ℕ → Source
 high_word k i = if nat_lt (i % 8) 4 then Second 16 i else Second 16 (8 * (i / 8) + (4 + pair k (i % 8 - 4)))
 
@@ -66,6 +68,7 @@ high_word k i = if nat_lt (i % 8) 4 then Second 16 i else Second 16 (8 * (i / 8)
 abbrev pub extracted : ℕ → ℕ → Source
 extracted k i = if nat_lt i 16 then Second 8 (16 * (k % 2) + i) else Zero
 
+-- byte i of the first argument, with the half that bit 0 numbers replaced by the low half of the second
 abbrev pub inserted : ℕ → ℕ → Source
 inserted k i = if i / 16 == k % 2 then Second 8 (i % 16) else First 8 i
 

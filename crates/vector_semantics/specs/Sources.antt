@@ -21,6 +21,7 @@ IsInside (First w i) = IsLane w i 32
 IsInside (Second w i) = IsLane w i 32
 IsInside Zero = Unit {0}
 
+-- the source is a lane of w bits, or zero
 abbrev pub HasBits : ℕ → Source → Type 0
 HasBits n (First w i) = w ≡ n
 HasBits n (Second w i) = w ≡ n

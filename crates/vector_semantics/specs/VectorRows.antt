@@ -103,5 +103,6 @@ HasRow (ops.Moving op) w = HasMoveWidths op × IsMoveRow op w
 HasRow ops.Vzeroupper w = ⊥
 HasRow _ w = Unit {0}
 
+-- a row of the table, at a width of vectors that it has
 abbrev pub IsVectorRow : VectorOp → ℕ → Type 0
 IsVectorRow op w = IsVectorWidth w × HasRow op w

@@ -3,6 +3,7 @@ use Rattle.std.specs.Prelude.{ℕ}
 use Rattle.align_base.specs.declared.vector_op.LaneWidth.{LaneWidth}
 use Rattle.align_base.specs.declared.vector_op.LaneWidth.TheVariants.{Byte, Word, Doubleword, Quadword}
 
+-- a lane's width in bits
 abbrev pub bits : LaneWidth → ℕ
 bits Byte = 8
 bits Word = 16
