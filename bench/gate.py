@@ -1,12 +1,13 @@
 #!/usr/bin/env python3
-"""The processor time of the whole gate from nothing, by crate and by kind: proofs, tests (each proved, too), wrong edits.
+"""The processor time of the gate from nothing, by crate and by kind: proofs, tests (each proved, too), wrong edits. With
+names it is that of these crates and those below them.
 
 Runs `rt ci` in this checkout (with `--anew`, where the kit has it) and looks, ten times a second, at the processes of the prover that it starts: a
 check in a folder of an edit is an edit's, one of a crate's tests is a test's, each other one is a proof's. What is left
 of the whole (compilers, programs, tests that run, processes too short to be seen) is printed as the rest. Run it with no
 other work on the machine.
 
-usage: python3 bench/gate.py
+usage: python3 bench/gate.py [NAME..]
 """
 import os
 import resource
@@ -60,7 +61,7 @@ def main():
     log = open(os.path.join(tempfile.gettempdir(), "align-gate.log"), "w+")
     shown = subprocess.run(["rt", "help"], capture_output=True, text=True)
     anew = ["--anew"] if "--anew" in shown.stdout + shown.stderr else []
-    run = subprocess.Popen(["rt", "ci", *anew], stdout=log, stderr=subprocess.STDOUT)
+    run = subprocess.Popen(["rt", "ci", *sys.argv[1:], *anew], stdout=log, stderr=subprocess.STDOUT)
     spent, kinds, start = {}, {}, time.monotonic()
     while run.poll() is None:
         for pid, ticks in children([run.pid]).items():

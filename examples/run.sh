@@ -5,12 +5,13 @@
 cd "$(dirname "$0")/.." || exit 1
 PATH="$PATH:/opt/rattle/bin"
 [ "$1" = --proved ] && { proved=yes; shift; }
-folders=${1:-swapped_sum longer_way off_by_one wrong_register compiled_difference summed_words incremented_words}
+folders=${1:-swapped_sum longer_way off_by_one wrong_register compiled_difference summed_words incremented_words vectorised_words counted_bits}
 
 # the files of a folder, in the order of the arguments
 files() {
   case $1 in
     *_words) echo gcc.s admission tests.json ;;
+    *_bits) echo gcc.s ;;
     *) echo left.s right.s ;;
   esac
 }
@@ -19,6 +20,7 @@ files() {
 arguments() {
   case $1 in
     *_words) printf '%s\n' run "$2gcc.s" f "$2admission" "$2tests.json" ;;
+    *_bits) printf '%s\n' show "$2gcc.s" f ;;
     *) printf '%s\n' decide "$2left.s" f "$2right.s" g ;;
   esac
 }

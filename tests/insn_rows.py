@@ -1,8 +1,10 @@
 #!/usr/bin/env python3
-"""Makes the lines of crates/insn_rows/stdin, one of each general mnemonic, and what must be printed of them (stdout).
+"""Makes the lines of crates/insn_rows/stdin, one of each general mnemonic and of each form of each one on vectors, and
+what must be printed of them (stdout).
 
-The mnemonics are those of crates/insn_table/specs/Spellings.antt. What is printed follows the rules of printed
-instructions: the first name of a condition, the suffix of the width, `shl` for `sal`, numbers as signed ones.
+The mnemonics are those of crates/insn_table/specs/LegacyRows.antt and VexRows.antt. What is printed follows the rules of
+printed instructions: the first name of a condition, the suffix of the width, `shl` for `sal`, `pand` for `andps`, numbers
+as signed ones, and those that control vectors as they are.
 
     tests/insn_rows.py        # writes both files
 """
@@ -29,9 +31,17 @@ PLACES = [
 
 
 def rows():
-    text = (ROOT / "insn_table/specs/Spellings.antt").read_text()
-    for mnemonic, op, w in re.findall(r'row \(codes "(\w+)"\) (\(\w+ \w+\)|\w+) (\d+)', text):
+    text = (ROOT / "insn_table/specs/LegacyRows.antt").read_text()
+    for mnemonic, op, w in re.findall(r' row \(codes "(\w+)"\) (\(\w+ \w+\)|\w+) (\d+)', text):
         yield mnemonic, op.strip("()").split(), int(w)
+
+
+def vector_rows():
+    """Each mnemonic on vectors, and the words of its operation."""
+    for name in ("LegacyRows", "VexRows"):
+        text = (ROOT / f"insn_table/specs/{name}.antt").read_text()
+        for mnemonic, op in re.findall(r'(?:vector|vex|upper)_row \(codes "(\w+)"\) (.*?) ∷', text):
+            yield mnemonic, re.findall(r"\w+", op)
 
 
 def source(n, w):
@@ -94,8 +104,72 @@ def line(n, mnemonic, op, w):
     return f"{mnemonic} {a[0]} , {b[0]}", f"{name.lower()}{letter} {a[1]},{b[1]}"
 
 
+# what is printed of other names of the operations by bits
+NAMED = {"andps": "pand", "andnps": "pandn", "orps": "por", "xorps": "pxor"}
+SHIFTS = {"Psll", "Psrl", "Psra", "Pslldq", "Psrldq"}
+COPIES = {"Movdqa", "Movdqu", "Movaps", "Movups"}
+
+
+def vector(n, w):
+    return (f"%{'xmm' if w == 128 else 'ymm'}{n % 16}",) * 2
+
+
+def vector_source(n, w):
+    """A vector register or memory, by turns."""
+    return PLACES[n % len(PLACES)] if n % 2 else vector(n, w)
+
+
+def control(n):
+    return ("$0xff", "$255") if n % 4 == 0 else (f"${n % 256}",) * 2
+
+
+def vector_operands(n, words, vex, w):
+    """The operands of each form of an operation on vectors of w bits."""
+    op = next(word for word in words if word not in ("Lanewise", "Moving"))
+    both = [vector(n + 1, w)] if not vex else [vector(n + 1, w), vector(n + 2, w)]
+    low = w == 128
+    if op == "Vzeroupper":
+        return [[]] if not low else []
+    if op in SHIFTS:
+        return [[control(n)] + both]
+    if op in COPIES:
+        return [[vector_source(n, w), vector(n + 3, w)], [vector(n + 3, w), PLACES[n % len(PLACES)]]]
+    if op in ("Movd", "Movq"):
+        v = 32 if op == "Movd" else 64
+        pairs = [[readable(n, v), vector(n, 128)], [vector(n, 128), readable(n + 1, v)]]
+        return (pairs + ([[vector(n, 128), vector(n + 1, 128)]] if v == 64 else [])) if low else []
+    if op in ("Pshufd", "Pshuflw", "Pshufhw", "Permq"):
+        return [[control(n), vector_source(n, w), vector(n + 3, w)]] if op != "Permq" or not low else []
+    if op in ("Pabs",):
+        return [[vector_source(n, w), vector(n + 3, w)]]
+    if op in ("Pbroadcast", "Pmovzx", "Pmovsx"):
+        return [[vector_source(n, 128), vector(n + 3, w)]]
+    if op == "Extracti128":
+        return [] if low else [[control(n), vector(n, 256), vector(n + 1, 128)], [control(n), vector(n, 256), PLACES[n % 5]]]
+    if op in ("Inserti128", "Perm2i128"):
+        return [] if low else [[control(n), vector_source(n, 128 if op[0] == "I" else 256)] + both]
+    if op == "Pmovmskb":
+        return [[vector(n, w), register(n, 32)]]
+    return [[vector_source(n, w)] + both]
+
+
+def vector_lines():
+    """A line of each form of each mnemonic on vectors, of 128 bits and with VEX of 256, and of `movq` without VEX."""
+    n = 0
+    for mnemonic, words in list(vector_rows()) + [("movq", ["Moving", "Movq"])]:
+        vex = mnemonic[0] == "v"
+        stem = mnemonic[1:] if vex else mnemonic
+        printed = ("v" if vex else "") + NAMED.get(stem, stem)
+        for w in (128, 256) if vex else (128,):
+            for operands in vector_operands(n, words, vex, w):
+                written = " " + " , ".join(a for a, _ in operands) if operands else ""
+                shown = " " + ",".join(b for _, b in operands) if operands else ""
+                yield mnemonic + written, printed + shown
+                n += 1
+
+
 def main():
-    lines = [line(n, *row) for n, row in enumerate(rows())]
+    lines = [line(n, *row) for n, row in enumerate(rows())] + list(vector_lines())
     out = ROOT / "insn_rows"
     (out / "stdin").write_text("".join(a + "\n" for a, _ in lines))
     (out / "stdout").write_text("".join(b + "\n" for _, b in lines) + f"rows {len(lines)}\nwrong 0\n")

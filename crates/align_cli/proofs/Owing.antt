@@ -17,7 +17,7 @@ use Rattle.att_reader.specs.FunctionText.{IsFunctionText}
 use Rattle.admission_text.proofs.WholeTexts.{text-differs as admission-differs}
 use Rattle.att_reader.proofs.TextLaws as laws
 use Rattle.tests_text.proofs.TestFaults.{text-differs as tests-differ}
-use Rattle.command_line.specs.Command.{Command, DecidePlain, FunctionArguments, RunArguments}
+use Rattle.command_line.specs.Command.{Command, DecidePlain, FunctionArguments, RunArguments, Show}
 use Rattle.command_line.specs.Command.{Run as ToRun}
 use Rattle.align_cli.specs.Commands.{Accepts, AreFunctions, HoldsFunction, OfPlain, Owes, RefusesContents, RefusesEither, Rejects, Says, TellsFunctions, TellsRunFiles, finals}
 use Rattle.align_cli.specs.Files.{AdmissionText, Content, FunctionText, TestsText, File, IsBadFile, IsGoodFile, IsText, ReadsFile, RefusesFile, RefusesText, files_of, function_file, limit_of}
@@ -91,29 +91,33 @@ equivalent_same : (left right : List Insn) (report : List ℕ) → ReportsEquiva
 equivalent_same left right report e a =
     a.differ (e.equivalent.same a.start a.is_start a.left_steps a.right_steps a.left_number a.right_number a.left_returns a.right_returns)
 
+-- a file that holds a function is good
+function_good : (told : Option Holding) (held : Holding) (side : Side) (arguments : FunctionArguments) (f : Function) → told ≡ Some held
+    → HoldsFunction told arguments f → IsGoodFile told (function_file side arguments)
+function_good told held side arguments f tells h = record {
+  held = held;
+  text = h.text;
+  tells = tells;
+  is_held = held_is told held arguments.file h.text tells h.held;
+  small = h.small;
+  is_text = (f, h.reads);
+}
+
 -- files that hold functions are good
 pub functions_good : (C : List Insn → List Insn → Type 0) (told : Option Holding) (left right : FunctionArguments) → TellsFunctions C told left right
     → AllByRecursion (IsGoodFile told) (function_file Left left ∷ function_file Right right ∷ [])
-functions_good C told left right owes = (good Left left owes.2.f owes.2.left_holds, (good Right right owes.2.g owes.2.right_holds, tt))
-  where
-    good : (side : Side) (arguments : FunctionArguments) (f : Function) → HoldsFunction told arguments f → IsGoodFile told (function_file side arguments)
-    good side arguments f h = record {
-      held = owes.0;
-      text = h.text;
-      tells = owes.1;
-      is_held = held_is told owes.0 arguments.file h.text owes.1 h.held;
-      small = h.small;
-      is_text = (f, h.reads);
-    }
+functions_good C told left right owes = (
+  function_good told owes.0 Left left owes.2.f owes.1 owes.2.left_holds,
+  (function_good told owes.0 Right right owes.2.g owes.1 owes.2.right_holds, tt),
+)
 
 -- files that hold a function, an admission and tests are good
 run_files_good : (told : Option Holding) (run : RunArguments) → TellsRunFiles told run → AllByRecursion (IsGoodFile told) (files_of (ToRun run))
 run_files_good told run tells =
     let held = tells.0 in
-    let h = tells.2.function_holds in
     let k = tells.2.admission_holds in
     let l = tells.2.tests_holds in (
-      record { held = held; text = h.text; tells = tells.1; is_held = held_is told held run.function.file h.text tells.1 h.held; small = h.small; is_text = (tells.2.f, h.reads) },
+      function_good told held Left run.function tells.2.f tells.1 tells.2.function_holds,
       (
         record { held = held; text = k.text; tells = tells.1; is_held = held_is told held run.admission k.text tells.1 k.held; small = k.small; is_text = (tells.2.a, k.reads) },
         (
@@ -158,6 +162,9 @@ owes-differs (DecidePlain left right) _ t told report owes says = absurd owes
 owes-differs (ToRun run) status.Good status.Good told report owes says = refl
 owes-differs (ToRun run) status.Good _ told report owes says = absurd says
 owes-differs (ToRun run) _ t told report owes says = absurd owes
+owes-differs (Show function) status.Good status.Good told report owes says = refl
+owes-differs (Show function) status.Good _ told report owes says = absurd says
+owes-differs (Show function) _ t told report owes says = absurd owes
 
 -- files that call for a status are accepted
 pub owes-accepts : (command : Command) (s : Status) (told : Option Holding) → Owes command s told → Accepts command told
@@ -166,11 +173,14 @@ owes-accepts (DecidePlain left right) status.Negative told owes = plain_function
 owes-accepts (DecidePlain left right) _ told owes = absurd owes
 owes-accepts (ToRun run) status.Good told owes = owes
 owes-accepts (ToRun run) _ told owes = absurd owes
+owes-accepts (Show function) status.Good told owes = owes
+owes-accepts (Show function) _ told owes = absurd owes
 
 -- files that are accepted are good
 pub accepts-good : (command : Command) (told : Option Holding) → Accepts command told → AllByRecursion (IsGoodFile told) (files_of command)
 accepts-good (DecidePlain left right) told accepts = functions_good (λ f g. IsPlain f × IsPlain g) told left right accepts
 accepts-good (ToRun run) told accepts = run_files_good told run accepts
+accepts-good (Show function) told accepts = (function_good told accepts.0 Left function accepts.2.f accepts.1 accepts.2.holds, tt)
 
 -- contents that are accepted were not refused
 pub accepts-differs : (command : Command) (told : Option Holding) (report : List ℕ) → Accepts command told → RefusesContents command told report → ⊥
@@ -178,6 +188,7 @@ accepts-differs (DecidePlain left right) told report accepts refuses =
     plain_differ accepts.2.f.insns accepts.2.g.insns report accepts.2.claim
     (same_functions (RefusesEither report) (λ f g. IsPlain f × IsPlain g) told accepts.0 left right accepts.1 refuses accepts.2)
 accepts-differs (ToRun run) told report accepts refuses = absurd refuses
+accepts-differs (Show function) told report accepts refuses = absurd refuses
 
 -- contents that are rejected are in no report of a command that was carried out
 pub rejects-differs : (command : Command) (s : Status) (told : Option Holding) (report : List ℕ) → Rejects command told → Says command s told report → ⊥
@@ -191,6 +202,7 @@ rejects-differs (DecidePlain left right) status.Negative told report rejects say
     (same_functions (OfPlain (λ f g. ReportsDifferent f g report)) (λ f g. (IsPlain f → ⊥) ⊎ (IsPlain g → ⊥)) told rejects.0 left right rejects.1 says rejects.2))
 rejects-differs (DecidePlain left right) _ told report rejects says = absurd says
 rejects-differs (ToRun run) s told report rejects says = absurd rejects
+rejects-differs (Show function) s told report rejects says = absurd rejects
 
 -- a report of a command that was carried out has one of its statuses
 pub says-final : (command : Command) (s : Status) (told : Option Holding) (report : List ℕ) → Says command s told report → IsOneOf (finals command ++ interruptions) s
@@ -199,3 +211,5 @@ says-final (DecidePlain left right) status.Negative told report says = inr (inl 
 says-final (DecidePlain left right) _ told report says = absurd says
 says-final (ToRun run) status.Good told report says = inl refl
 says-final (ToRun run) _ told report says = absurd says
+says-final (Show function) status.Good told report says = inl refl
+says-final (Show function) _ told report says = absurd says

@@ -43,6 +43,10 @@ pub err-is : {T E : Type 0} (P : E → Type 0) (r : Result T E) (e : E) → IsEr
 err-is P (Ok x) e is h = tt
 err-is P (Err x) e is h = subst P (sym is) h
 
+-- what holds of a status and a report holds of an answer that has them
+pub answer-as : (P : Status → List ℕ → Type 0) (s t : Status) (report bytes : List ℕ) → t ≡ s → bytes ≡ report → P s report → P t bytes
+answer-as P s t report bytes same whole h = subst (λ (x : Status). P x bytes) (sym same) (subst (P s) (sym whole) h)
+
 -- a file of too many bytes is refused
 pub large-refused : (told : Option Holding) (seen : ℕ) (file : File) (report : List ℕ)
     → HoldsMore told file.name 16777216 × (16777216 < seen) × (report ≡ large_refusal (file_word file.content) 16777217) → RefusesFile told seen file report

@@ -12,9 +12,10 @@ use Rattle.admission.specs.declared.admission.Admission.{Admission}
 use Rattle.admission_text.specs.Entries.{IsAdmissionText}
 use Rattle.align_report.specs.RunReport.{IsRunReport}
 use Rattle.att_reader.specs.FunctionText.{IsFunctionText}
+use Rattle.insn_text.specs.ShowText.{IsShown}
 use Rattle.tests_text.specs.TestFiles.{IsTestsText}
 use Rattle.tests_text.specs.declared.test.Tests.{Tests}
-use Rattle.command_line.specs.Command.{Command, DecidePlain, FunctionArguments, Run, RunArguments}
+use Rattle.command_line.specs.Command.{Command, DecidePlain, FunctionArguments, Run, RunArguments, Show}
 use Rattle.align_cli.specs.Plainness.{IsFirstUnplain}
 use Rattle.align_cli.specs.Report.{unplain_refusal}
 use Rattle.align_cli.specs.Verdict.{ReportsDifferent, ReportsEquivalent, ReturnApart, ReturnTheSame}
@@ -50,6 +51,12 @@ pub record AreRunFiles (Claim : Function → Admission → Tests → Type 0) (to
   pub tests_holds : HoldsTests told run.tests tests
   pub claim : Claim f a tests
 
+-- the file holds a function of which this is so
+pub record IsFunctionFile (Claim : Function → Type 0) (told : Option Holding) (arguments : FunctionArguments) : Type 0 where
+  pub f : Function
+  pub holds : HoldsFunction told arguments f
+  pub claim : Claim f
+
 -- the files hold functions of which this is so
 pub record AreFunctions (Claim : List Insn → List Insn → Type 0) (told : Option Holding) (left right : FunctionArguments) : Type 0 where
   pub f : Function
@@ -69,11 +76,14 @@ Says (DecidePlain left right) status.Negative told report = AreFunctions (OfPlai
 Says (DecidePlain left right) _ told report = ⊥
 Says (Run run) status.Good told report = AreRunFiles (λ f a tests. IsRunReport f a tests run.steps report) told run
 Says (Run run) _ told report = ⊥
+Says (Show function) status.Good told report = IsFunctionFile (λ f. IsShown f report) told function
+Says (Show function) _ told report = ⊥
 
 -- the statuses of a command that was carried out
 abbrev pub finals : Command → List Status
 finals (DecidePlain left right) = status.Good ∷ status.Negative ∷ []
 finals (Run run) = status.Good ∷ []
+finals (Show function) = status.Good ∷ []
 
 -- the function is not plain, and the report refuses it at its first instruction that is not
 abbrev pub RefusesUnplain : Side → List Insn → List ℕ → Type 0
@@ -87,6 +97,7 @@ RefusesEither report f g = RefusesUnplain Left f report ⊎ (IsPlain f × Refuse
 abbrev pub RefusesContents : Command → Option Holding → List ℕ → Type 0
 RefusesContents (DecidePlain left right) told report = AreFunctions (RefusesEither report) told left right
 RefusesContents (Run run) told report = ⊥
+RefusesContents (Show function) told report = ⊥
 
 -- the shelf tells, and the files hold functions of which this is so
 abbrev pub TellsFunctions : (List Insn → List Insn → Type 0) → Option Holding → FunctionArguments → FunctionArguments → Type 0
@@ -96,15 +107,21 @@ TellsFunctions Claim told left right = (held : Holding) × (told ≡ Some held) 
 abbrev pub TellsRunFiles : Option Holding → RunArguments → Type 0
 TellsRunFiles told run = (held : Holding) × (told ≡ Some held) × AreRunFiles (λ f a tests. ⊤) told run
 
+-- the shelf tells, and the file holds a function
+abbrev pub TellsFunctionFile : Option Holding → FunctionArguments → Type 0
+TellsFunctionFile told function = (held : Holding) × (told ≡ Some held) × IsFunctionFile (λ f. ⊤) told function
+
 -- the files are such that the command can be carried out
 abbrev pub Accepts : Command → Option Holding → Type 0
 Accepts (DecidePlain left right) told = TellsFunctions (λ f g. IsPlain f × IsPlain g) told left right
 Accepts (Run run) told = TellsRunFiles told run
+Accepts (Show function) told = TellsFunctionFile told function
 
 -- the files are good, and the command cannot be carried out with what they hold
 abbrev pub Rejects : Command → Option Holding → Type 0
 Rejects (DecidePlain left right) told = TellsFunctions (λ f g. (IsPlain f → ⊥) ⊎ (IsPlain g → ⊥)) told left right
 Rejects (Run run) told = ⊥
+Rejects (Show function) told = ⊥
 
 -- the files are such that the command has to end with this status
 abbrev pub Owes : Command → Status → Option Holding → Type 0
@@ -113,3 +130,5 @@ Owes (DecidePlain left right) status.Negative told = TellsFunctions (OfPlain Ret
 Owes (DecidePlain left right) _ told = ⊥
 Owes (Run run) status.Good told = TellsRunFiles told run
 Owes (Run run) _ told = ⊥
+Owes (Show function) status.Good told = TellsFunctionFile told function
+Owes (Show function) _ told = ⊥

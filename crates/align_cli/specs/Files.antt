@@ -15,7 +15,7 @@ use Rattle.tests_text.specs.declared.refusal.TestRefusal.{TestRefusal}
 use Rattle.tests_text.specs.declared.test.Tests.{Tests}
 use Rattle.text_lines.specs.declared.refusal.ReadRefusal.{ReadRefusal}
 use Rattle.att_reader.specs.FunctionText.{IsFunctionText, IsRefused}
-use Rattle.command_line.specs.Command.{Command, DecidePlain, FunctionArguments, Run}
+use Rattle.command_line.specs.Command.{Command, DecidePlain, FunctionArguments, Run, Show}
 use Rattle.align_cli.specs.Report.{admission_refusal, large_refusal, line_refusal, side_name, tests_refusal}
 
 -- what the text of a file has to be
@@ -45,6 +45,7 @@ tests_file name = record { name = name; content = TestsText }
 abbrev pub files_of : Command → List File
 files_of (DecidePlain left right) = function_file Left left ∷ function_file Right right ∷ []
 files_of (Run run) = function_file Left run.function ∷ admission_file run.admission ∷ tests_file run.tests ∷ []
+files_of (Show function) = function_file Left function ∷ []
 
 -- the most bytes of a file: 16 MiB
 abbrev pub limit_of : Content → ℕ

@@ -1,5 +1,5 @@
 //! What a command answers before anything is given, and what keeps it from an answer.
-ghost use Rattle.std.specs.Prelude.{◌≡◌};
+ghost use Rattle.std.specs.Prelude.{◌≡◌, string_bytes};
 ghost use Rattle.align_cli.specs.declared.answer.Interruption.TheVariants as interruption;
 
 use align_base::{Memory, Status};
@@ -10,7 +10,20 @@ use thiserror::Error;
 #[derive(Drop)]
 pub struct Answer {
     pub status: Status,
-    pub text: String,
+    pub report: Vec<u8>,
+}
+
+impl Answer {
+    /// A report that is text, with its status.
+    pub fn new(status: Status, text: String) -> Answer
+        ensures status { result.status ≡ status }
+        ensures report { result.report.items ≡ string_bytes text }
+    {
+        Answer {
+            status,
+            report: text.into_bytes(),
+        }
+    }
 }
 
 /// What keeps a command from an answer.

@@ -27,17 +27,17 @@ fn compared(alloc: Global, left: &Function, right: &Function) -> Result<Answer, 
     requires left_few { length left.now.insns ≤ 4096 }
     requires right_plain { IsPlain right.now.insns }
     requires right_few { length right.now.insns ≤ 4096 }
-    ensures { IfOk result (λ answer. Compares answer.status left.now.insns right.now.insns (string_bytes answer.text)) }
+    ensures { IfOk result (λ answer. Compares answer.status left.now.insns right.now.insns answer.report.items) }
 {
     let left_sum = rax_sum(left.insns.as_slice());
     let right_sum = rax_sum(right.insns.as_slice());
     let left_steps = left.insns.len() as u64;
     let right_steps = right.insns.len() as u64;
     match telling_registers(&left_sum, &right_sum) {
-        None => Ok(Answer {
-            status: Status::Good,
-            text: report::equivalent(alloc, 2 * left_steps.max(right_steps))?,
-        }),
+        None => Ok(Answer::new(
+            Status::Good,
+            report::equivalent(alloc, 2 * left_steps.max(right_steps))?,
+        )),
         Some(regs) => {
             let left_end = Ending {
                 steps: left_steps,
@@ -47,10 +47,10 @@ fn compared(alloc: Global, left: &Function, right: &Function) -> Result<Answer, 
                 steps: right_steps,
                 value: right_sum.value(&regs),
             };
-            Ok(Answer {
-                status: Status::Negative,
-                text: report::different(alloc, left_end, right_end, &regs)?,
-            })
+            Ok(Answer::new(
+                Status::Negative,
+                report::different(alloc, left_end, right_end, &regs)?,
+            ))
         }
     }
 }
@@ -81,13 +81,10 @@ fn judged(alloc: Global, left: &Function, right: &Function) -> Result<Answer, Al
     requires left_few { length left.now.insns ≤ 4096 }
     requires right_closed { IsClosed right.now.insns }
     requires right_few { length right.now.insns ≤ 4096 }
-    ensures { IfOk result (λ answer. Compares answer.status left.now.insns right.now.insns (string_bytes answer.text)) }
+    ensures { IfOk result (λ answer. Compares answer.status left.now.insns right.now.insns answer.report.items) }
 {
     match refusal_of_unplain(alloc, left, right)? {
-        Some(text) => Ok(Answer {
-            status: Status::Refused,
-            text,
-        }),
+        Some(text) => Ok(Answer::new(Status::Refused, text)),
         None => compared(alloc, left, right),
     }
 }
@@ -102,27 +99,17 @@ pub fn decided<F: Shelf>(
     ensures holding { (F.account shelf.new).holding ≡ (F.account shelf.old).holding }
     ensures takes { TakesSome (files_of (decide_view left.now right.now)) (F.account shelf.old) (F.account shelf.new) }
     ensures ok { IfOk result (λ answer.
-        TellsOf (decide_view left.now right.now) answer.status (F.account shelf.old) (F.account shelf.new) (string_bytes answer.text)) }
+        TellsOf (decide_view left.now right.now) answer.status (F.account shelf.old) (F.account shelf.new) answer.report.items) }
     ensures none_failed { OnOk result (NoneFailed (F.account shelf.old) (F.account shelf.new)) }
     ensures err { IfErr result (Interrupts (decide_view left.now right.now) (F.account shelf.old) (F.account shelf.new)) }
 {
     let f = match function_in(alloc, shelf, Side::Left, left)? {
         Taken::Read(function) => function,
-        Taken::Refused(text) => {
-            return Ok(Answer {
-                status: Status::Refused,
-                text,
-            });
-        }
+        Taken::Refused(text) => return Ok(Answer::new(Status::Refused, text)),
     };
     let g = match function_in(alloc, shelf, Side::Right, right)? {
         Taken::Read(function) => function,
-        Taken::Refused(text) => {
-            return Ok(Answer {
-                status: Status::Refused,
-                text,
-            });
-        }
+        Taken::Refused(text) => return Ok(Answer::new(Status::Refused, text)),
     };
     Ok(judged(alloc, &f, &g)?)
 }

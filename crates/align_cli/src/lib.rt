@@ -13,6 +13,7 @@ mod files;
 mod plainness;
 mod report;
 mod run;
+mod show;
 mod sums;
 mod top;
 

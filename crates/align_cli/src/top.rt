@@ -1,5 +1,5 @@
 //! The top call: all that the program does.
-ghost use Rattle.std.specs.Prelude.{◌≡◌, ◌≢◌, ◌⊎◌, ◌∷◌, ◌++◌, [], string_bytes, IfErr, IfOk, OnOk, MatchResult};
+ghost use Rattle.std.specs.Prelude.{◌≡◌, ◌≢◌, ◌⊎◌, ◌∷◌, ◌++◌, [], IfErr, IfOk, OnOk, MatchResult};
 ghost use Rattle.align_base.specs.Causes.{Rose};
 ghost use Rattle.align_base.specs.Shelf.{NoneFailed};
 ghost use Rattle.align_base.specs.declared.status.Status.{Status};
@@ -15,6 +15,7 @@ use crate::answer::{Answer, Interruption};
 use crate::decide::decided;
 use crate::report;
 use crate::run::ran;
+use crate::show::shown;
 use align_base::{Gate, GiveFault, Shelf, Sink, Status, Word};
 use command_line::command_of;
 use std::alloc::{AllocError, Global};
@@ -22,12 +23,9 @@ use std::thread::Threads;
 
 /// The usage, for arguments that are no command.
 fn usage(alloc: Global) -> Result<Answer, AllocError>
-    ensures { IfOk result (λ answer. (answer.status ≡ Status.Usage) × (string_bytes answer.text ≡ usage_text)) }
+    ensures { IfOk result (λ answer. (answer.status ≡ Status.Usage) × (answer.report.items ≡ usage_text)) }
 {
-    Ok(Answer {
-        status: Status::Usage,
-        text: report::usage(alloc)?,
-    })
+    Ok(Answer::new(Status::Usage, report::usage(alloc)?))
 }
 
 /// What the arguments ask for, up to what is given.
@@ -41,7 +39,7 @@ fn answer_of<F: Shelf>(
     ensures takes { (command : Command) → IsCommand arguments.now command
         → TakesAtMost (files_of command) (F.account shelf.old) (F.account shelf.new) }
     ensures ok { IfOk result (λ answer.
-        Tells arguments.now answer.status (F.account shelf.old) (F.account shelf.new) (string_bytes answer.text)) }
+        Tells arguments.now answer.status (F.account shelf.old) (F.account shelf.new) answer.report.items) }
     ensures none_failed { OnOk result (NoneFailed (F.account shelf.old) (F.account shelf.new)) }
     ensures err { IfErr result (InterruptsArguments arguments.now (F.account shelf.old) (F.account shelf.new)) }
 {
@@ -50,6 +48,7 @@ fn answer_of<F: Shelf>(
             alloc, &left, &right, shelf,
         ),
         Some(command_line::Command::Run(run)) => ran(alloc, &run, shelf),
+        Some(command_line::Command::Show(function)) => shown(alloc, &function, shelf),
         None => Ok(usage(alloc)?),
     }
 }
@@ -66,7 +65,8 @@ pub fn align_main<R: Threads + Sync, G: Gate + Sync, F: Shelf, O: Sink>(
 ) -> Status
     // The command was carried out, and what its report says is so: of `decide`, that the functions in
     // the files are equivalent within the printed bound, or that both return from the printed state
-    // with different %rax; of `run`, that the report is that of the runs.
+    // with different %rax; of `run`, that the report is that of the runs; of `show`, that it is that of
+    // the function.
     ensures good { result ≡ Status.Good
         → Given (λ report. OfCommand arguments.now (λ command.
         Finishes command Status.Good (F.account shelf.old) (F.account shelf.new) report))
@@ -128,7 +128,7 @@ pub fn align_main<R: Threads + Sync, G: Gate + Sync, F: Shelf, O: Sink>(
     match answer_of(alloc, arguments, shelf) {
         Err(Interruption::Shelf) => Status::ShelfFault,
         Err(Interruption::Memory) => Status::NoMemory,
-        Ok(answer) => match out.give(answer.text.as_bytes()) {
+        Ok(answer) => match out.give(answer.report.as_slice()) {
             Ok(()) => answer.status,
             Err(GiveFault::Failed) => Status::SinkFault,
             Err(GiveFault::Memory) => Status::NoMemory,

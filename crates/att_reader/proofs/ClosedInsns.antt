@@ -1,5 +1,5 @@
 -- The text of an instruction gives one of the table, which jumps to places that labels lead to.
-use Rattle.std.proofs.Common.{◌≡◌, ◌≢◌, ℕ, ◌-◌, ◌<◌, ◌≤◌, Bool, true, false, cond, eqb, ◌&&◌, ◌⊎◌, inl, inr, List, [], ◌∷◌, ◌++◌, length, replicate, Option, Some, None, Result, Ok, Err, IfSome, slice_get, zero, suc, refl, sym, ap, ◌∙◌, subst, arith}
+use Rattle.std.proofs.Common.{◌≡◌, ◌≢◌, ℕ, ◌-◌, ◌<◌, ◌≤◌, Bool, true, false, cond, eqb, ◌&&◌, ◌||◌, if◌then◌else◌, ◌⊎◌, inl, inr, List, [], ◌∷◌, ◌++◌, length, replicate, Option, Some, None, Result, Ok, Err, IfSome, slice_get, zero, suc, refl, sym, ap, ◌∙◌, subst, arith}
 use Rattle.std.specs.List.{AllByRecursion}
 use Rattle.std.proofs.lemmas.Option.{slice_get_within}
 use Rattle.align_base.specs.declared.op.Op.{Op}
@@ -9,7 +9,8 @@ use Rattle.insn_table.specs.declared.insn.Insn.{Insn}
 use Rattle.insn_table.specs.declared.shape.Shape.{Shape}
 use Rattle.insn_table.specs.declared.fitting.Misfit.{Misfit}
 use Rattle.insn_table.specs.declared.fitting.Misfit.TheVariants as misfits
-use Rattle.insn_table.specs.Forms.{Form, is_shift, is_lone, counted_once, completed, insn_of, form_of, judged_by, numbers_fit, fits_of}
+use Rattle.insn_table.specs.Classes.{Form, numbers_fit}
+use Rattle.insn_table.specs.Forms.{chosen, is_shift, is_lone, counted_once, completed, insn_of, found_form, judged_by, fits_of}
 use Rattle.insn_table.specs.Table.{IsScale, HasRegisters, IsTableInsn}
 use Rattle.insn_table.specs.Closed.{IsInside}
 use Rattle.insn_table.proofs.TableInsns.{fitted-insn}
@@ -20,18 +21,23 @@ use Rattle.att_statements.specs.Statements.{AreWritten, StandsFor, StandFor, Has
 abbrev IsClosedOperand : ℕ → Operand → Type 0
 IsClosedOperand n o = HasRegisters o × IsInside n o
 
+either_few : {X : Type 0} (t : Bool) (xs ys : List X) → length xs ≤ 16 → length ys ≤ 16 → length (cond t xs ys) ≤ 16
+either_few true xs ys h k = h
+either_few false xs ys h k = k
+
 names_few : (w : ℕ) → length (register_names w) ≤ 16
 names_few w =
-    elim (eqb w 64) as (λ (t : Bool). length (cond t (register_names 64) (cond (eqb w 32) (register_names 32) (cond (eqb w 16) (register_names 16) (cond (eqb w 8) (register_names 8) [])))) ≤ 16) [
-      | true ↦ omega arith
-      | false ↦ elim (eqb w 32) as (λ (t : Bool). length (cond t (register_names 32) (cond (eqb w 16) (register_names 16) (cond (eqb w 8) (register_names 8) []))) ≤ 16) [
-        | true ↦ omega arith
-        | false ↦ elim (eqb w 16) as (λ (t : Bool). length (cond t (register_names 16) (cond (eqb w 8) (register_names 8) [])) ≤ 16) [
-          | true ↦ omega arith
-          | false ↦ elim (eqb w 8) as (λ (t : Bool). length (cond t (register_names 8) []) ≤ 16) [ true ↦ omega arith | false ↦ omega arith ]
-        ]
-      ]
-    ]
+    let wholes : List (List ℕ) = cond (eqb w 256) (register_names 256) [] in
+    let vectors : List (List ℕ) = cond (eqb w 128) (register_names 128) wholes in
+    let bytes : List (List ℕ) = cond (eqb w 8) (register_names 8) vectors in
+    let words : List (List ℕ) = cond (eqb w 16) (register_names 16) bytes in
+    let longs : List (List ℕ) = cond (eqb w 32) (register_names 32) words in
+    either_few (eqb w 64) (register_names 64) longs (omega arith)
+    (either_few (eqb w 32) (register_names 32) words (omega arith)
+    (either_few (eqb w 16) (register_names 16) bytes (omega arith)
+    (either_few (eqb w 8) (register_names 8) vectors (omega arith)
+    (either_few (eqb w 128) (register_names 128) wholes (omega arith)
+    (either_few (eqb w 256) (register_names 256) [] (omega arith) (omega arith))))))
 
 register-below : (text : List ℕ) (n w : ℕ) → IsRegisterText text n w → n < 16
 register-below text n w h = omega (arith, slice_get_within (register_names w) n h.name h.known, names_few w)
@@ -55,9 +61,14 @@ address-right (b ∷ i ∷ []) base index scale h = (base-below b base h.0, inde
 address-right (b ∷ i ∷ s ∷ []) base index scale h = (base-below b base h.0, index-below i index h.1, h.2.3)
 address-right (b ∷ i ∷ s ∷ more ∷ rest) base index scale h = absurd h
 
+register-closed : (n r w : ℕ) (vector : Bool) → r < 16 → IsClosedOperand n (if vector then Vec r w else Reg r w)
+register-closed n r w true low = (low, tt)
+register-closed n r w false low = (low, tt)
+
 plain-right : (n : ℕ) (text : List ℕ) (operand : Operand) → IsOperandText text (Plain operand) → IsClosedOperand n operand
 plain-right n text operand (inl register) =
-    subst (IsClosedOperand n) (sym register.3) (register-below text register.0 register.1 register.2, tt)
+    subst (IsClosedOperand n) (sym register.3)
+    (register-closed n register.0 register.1 (eqb register.1 128 || eqb register.1 256) (register-below text register.0 register.1 register.2))
 plain-right n text operand (inr memory) =
     subst (IsClosedOperand n) (sym memory.means) (address-right memory.parts memory.base memory.index memory.scale memory.address, tt)
 
@@ -110,7 +121,7 @@ pub insn-closed : (n : ℕ) (L : List ℕ → ℕ → Type 0) (text : List ℕ) 
 insn-closed n L text line i few h =
     let operands = operands-right n few h.made.parts h.written h.operands h.made.spelled h.made.stand h.placed in
     let made = insn_of h.shape (four h.operands) line in
-    let args = completed-right n h.shape.op (four h.operands) (all-append (IsClosedOperand n) h.operands _ operands (nothing-right n (4 - length h.operands))) in
-    let same : made ≡ i = judged_same (form_of made) made i h.fits in
+    let args = completed-right n (chosen h.shape (four h.operands)).op (four h.operands) (all-append (IsClosedOperand n) h.operands _ operands (nothing-right n (4 - length h.operands))) in
+    let same : made ≡ i = judged_same (found_form h.shape made) made i h.fits in
     let right = split-all n i.args (subst (λ (x : Insn). AllByRecursion (IsClosedOperand n) x.args) same args) in
     (fitted-insn h.made.mnemonic h.shape (four h.operands) line i h.made.row h.fits right.0, right.1)

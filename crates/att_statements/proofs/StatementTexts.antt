@@ -12,8 +12,10 @@ use Rattle.insn_table.specs.declared.insn.Insn.{Insn}
 use Rattle.insn_table.specs.declared.shape.Shape.{Shape}
 use Rattle.insn_table.specs.declared.fitting.Misfit.{Misfit}
 use Rattle.insn_table.specs.declared.fitting.Misfit.TheVariants as misfits
-use Rattle.insn_table.specs.Spellings.{named, general_rows}
-use Rattle.insn_table.specs.Forms.{Form, fits_of, form_of, judged_by, numbers_fit, insn_of}
+use Rattle.insn_table.specs.Rows.{named}
+use Rattle.insn_table.specs.Spellings.{table_rows}
+use Rattle.insn_table.specs.Classes.{Form, numbers_fit}
+use Rattle.insn_table.specs.Forms.{fits_of, found_form, judged_by, insn_of}
 use Rattle.text_lines.specs.Bytes.{is_blank}
 use Rattle.text_lines.specs.Words.{is_solid, prefix_of, behind_prefix, trim, IsPadded, HasWord}
 use Rattle.text_lines.specs.Kinds.{rank}
@@ -125,7 +127,7 @@ judged-alike (Some form) i j misfit same h =
 
 misfit-line : (shape : Shape) (args : List Operand) (k line : ℕ) (misfit : Misfit) → fits_of shape args k ≡ Err misfit → fits_of shape args line ≡ Err misfit
 misfit-line shape args k line misfit h =
-    judged-alike (form_of (insn_of shape args k)) (insn_of shape args k) (insn_of shape args line) misfit refl h
+    judged-alike (found_form shape (insn_of shape args k)) (insn_of shape args k) (insn_of shape args line) misfit refl h
 
 -- the operands that are read, as the instruction's four
 abbrev args_of : List Part → List Operand
@@ -134,7 +136,7 @@ args_of parts = map (λ (part : Part). part.operand) parts
 -- what is read of a statement that is made so
 made-read : (target : List ℕ → Option ℕ) (L : List ℕ → ℕ → Type 0) (text : List ℕ) (shape : Shape) (ws : List Written) (os : List Operand)
     → FindsTargets target L → IsMade L text shape ws os
-    → (named general_rows (mnemonic_of text) ≡ Some shape)
+    → (named table_rows (mnemonic_of text) ≡ Some shape)
     × (parts_in target shape.op 4 (texts_of text) ≡ Some (padded 4 (all_parts target shape.op ws)))
     × (args_of (padded 4 (all_parts target shape.op ws)) ≡ four os)
     × (length ws ≤ 4)
@@ -142,7 +144,7 @@ made-read target L text shape ws os finds made =
     let has = has-only text made.mnemonic made.parts made.has in
     let count = written-count made.parts ws made.spelled in
     let few : length ws ≤ 4 = omega (arith, made.few) in (
-      ap (named general_rows) has.0 ∙ made.row,
+      ap (named table_rows) has.0 ∙ made.row,
       ap (parts_in target shape.op 4) has.1 ∙ parts-read target shape.op 4 made.parts ws made.spelled made.few,
       four-operands target shape.op ws few ∙ ap four (sym (stand-only target L shape.op ws os finds made.stand)),
       few,
@@ -150,7 +152,7 @@ made-read target L text shape ws os finds made =
 
 -- how a statement is made of what is read
 made-from : (target : List ℕ → Option ℕ) (L : List ℕ → ℕ → Type 0) (text : List ℕ) (shape : Shape) (parts : List Part)
-    → FindsTargets target L → named general_rows (mnemonic_of text) ≡ Some shape → parts_in target shape.op 4 (texts_of text) ≡ Some parts
+    → FindsTargets target L → named table_rows (mnemonic_of text) ≡ Some shape → parts_in target shape.op 4 (texts_of text) ≡ Some parts
     → (ws : List Written) × IsMade L text shape ws (operands_from target shape.op ws) × (parts ≡ padded 4 (all_parts target shape.op ws))
     × (args_of parts ≡ four (operands_from target shape.op ws)) × AreWritten (texts_of text) ws × (length ws ≤ 4)
 made-from target L text shape parts finds row read =
@@ -175,8 +177,8 @@ made-from target L text shape parts finds row read =
 
 -- what each fault says of what is read
 
-unknown-fact : (L : List ℕ → ℕ → Type 0) (text : List ℕ) → IsBadStatement L text UnknownInstruction → named general_rows (mnemonic_of text) ≡ None
-unknown-fact L text (mnemonic, parts, has, none) = ap (named general_rows) (has-only text mnemonic parts has).0 ∙ none
+unknown-fact : (L : List ℕ → ℕ → Type 0) (text : List ℕ) → IsBadStatement L text UnknownInstruction → named table_rows (mnemonic_of text) ≡ None
+unknown-fact L text (mnemonic, parts, has, none) = ap (named table_rows) (has-only text mnemonic parts has).0 ∙ none
 
 pool-fact : (L : List ℕ → ℕ → Type 0) (text : List ℕ) → IsBadStatement L text PoolRefused → list_any is_pool_part (texts_of text) ≡ true
 pool-fact L text (mnemonic, parts, has, such) =
@@ -184,7 +186,7 @@ pool-fact L text (mnemonic, parts, has, such) =
 
 -- what is read of a statement is what it is made of
 same-made : (target : List ℕ → Option ℕ) (L : List ℕ → ℕ → Type 0) (text : List ℕ) (shape other : Shape) (ws : List Written) (os : List Operand) (parts : List Part)
-    → FindsTargets target L → IsMade L text other ws os → named general_rows (mnemonic_of text) ≡ Some shape → parts_in target shape.op 4 (texts_of text) ≡ Some parts
+    → FindsTargets target L → IsMade L text other ws os → named table_rows (mnemonic_of text) ≡ Some shape → parts_in target shape.op 4 (texts_of text) ≡ Some parts
     → (other ≡ shape) × (parts ≡ padded 4 (all_parts target shape.op ws)) × (four os ≡ args_of parts) × (length ws ≤ 4)
 same-made target L text shape other ws os parts finds made row read =
     let m = made-read target L text other ws os finds made in
@@ -194,7 +196,7 @@ same-made target L text shape other ws os parts finds made row read =
     (same, parts_are, sym moved.1 ∙ ap args_of (sym parts_are), m.3)
 
 misfit-fact : (target : List ℕ → Option ℕ) (L : List ℕ → ℕ → Type 0) (text : List ℕ) (shape : Shape) (parts : List Part) (line : ℕ) (misfit : Misfit)
-    → FindsTargets target L → named general_rows (mnemonic_of text) ≡ Some shape → parts_in target shape.op 4 (texts_of text) ≡ Some parts
+    → FindsTargets target L → named table_rows (mnemonic_of text) ≡ Some shape → parts_in target shape.op 4 (texts_of text) ≡ Some parts
     → IsMisfit L text misfit → fits_of shape (args_of parts) line ≡ Err misfit
 misfit-fact target L text shape parts line misfit finds row read m =
     let same = same-made target L text shape m.shape m.written m.operands parts finds m.made row read in
@@ -203,7 +205,7 @@ misfit-fact target L text shape parts line misfit finds row read m =
     misfit-line shape (args_of parts) 0 line misfit fails
 
 operand-fact : (target : List ℕ → Option ℕ) (L : List ℕ → ℕ → Type 0) (text : List ℕ) (shape : Shape) (parts : List Part) (line : ℕ)
-    → FindsTargets target L → named general_rows (mnemonic_of text) ≡ Some shape → parts_in target shape.op 4 (texts_of text) ≡ Some parts
+    → FindsTargets target L → named table_rows (mnemonic_of text) ≡ Some shape → parts_in target shape.op 4 (texts_of text) ≡ Some parts
     → IsBadStatement L text BadOperand → fits_of shape (args_of parts) line ≡ Err misfits.BadOperand
 operand-fact target L text shape parts line finds row read (inl (mnemonic, texts, has, none)) =
     absurd (none-parts target shape.op 4 texts parts none (ap (parts_in target shape.op 4) (sym (has-only text mnemonic texts has).1) ∙ read))
@@ -236,7 +238,7 @@ wide-test target op w wide =
     [ true ↦ λ e. refl | false ↦ λ e. absurd (wide (within-known target op w e)) ] refl
 
 number-fact : (target : List ℕ → Option ℕ) (L : List ℕ → ℕ → Type 0) (text : List ℕ) (shape : Shape) (parts : List Part) (line : ℕ)
-    → FindsTargets target L → named general_rows (mnemonic_of text) ≡ Some shape → parts_in target shape.op 4 (texts_of text) ≡ Some parts
+    → FindsTargets target L → named table_rows (mnemonic_of text) ≡ Some shape → parts_in target shape.op 4 (texts_of text) ≡ Some parts
     → IsBadStatement L text BadNumber → (fits_of shape (args_of parts) line ≡ Err misfits.BadNumber) ⊎ (list_any is_wide parts ≡ true)
 number-fact target L text shape parts line finds row read (inl m) = inl (misfit-fact target L text shape parts line misfits.BadNumber finds row read m)
 number-fact target L text shape parts line finds row read (inr m) =
@@ -261,7 +263,7 @@ lost-at target L op (first ∷ texts) (w ∷ ws) (suc k) text finds are there lo
     elim (part_of target op w).lost as (λ t. (t || list_any (λ v. (part_of target op v).lost) ws) ≡ true) [ true ↦ refl | false ↦ later ]
 
 label-fact : (target : List ℕ → Option ℕ) (L : List ℕ → ℕ → Type 0) (text : List ℕ) (shape : Shape) (parts : List Part)
-    → FindsTargets target L → named general_rows (mnemonic_of text) ≡ Some shape → parts_in target shape.op 4 (texts_of text) ≡ Some parts
+    → FindsTargets target L → named table_rows (mnemonic_of text) ≡ Some shape → parts_in target shape.op 4 (texts_of text) ≡ Some parts
     → IsBadStatement L text UnknownLabel → list_any is_lost parts ≡ true
 label-fact target L text shape parts finds row read (mnemonic, texts, has, such) =
     let m = made-from target L text shape parts finds row read in
@@ -335,11 +337,11 @@ IsRight L text line r = IsStatement (IsBadStatement L) (IsInsnText L) text line 
 -- what is known where the mnemonic and the operands are
 record AreRead (target : List ℕ → Option ℕ) (L : List ℕ → ℕ → Type 0) (text : List ℕ) (shape : Shape) (parts : List Part) : Type 0 where
   finds : FindsTargets target L
-  row : named general_rows (mnemonic_of text) ≡ Some shape
+  row : named table_rows (mnemonic_of text) ≡ Some shape
   pool : list_any is_pool_part (texts_of text) ≡ false
   read : parts_in target shape.op 4 (texts_of text) ≡ Some parts
 
-no-unknown : (L : List ℕ → ℕ → Type 0) (text : List ℕ) (shape : Shape) → named general_rows (mnemonic_of text) ≡ Some shape → IsBadStatement L text UnknownInstruction → ⊥
+no-unknown : (L : List ℕ → ℕ → Type 0) (text : List ℕ) (shape : Shape) → named table_rows (mnemonic_of text) ≡ Some shape → IsBadStatement L text UnknownInstruction → ⊥
 no-unknown L text shape row bad = let none = unknown-fact L text bad in cc
 
 no-pool : (L : List ℕ → ℕ → Type 0) (text : List ℕ) → list_any is_pool_part (texts_of text) ≡ false → IsBadStatement L text PoolRefused → ⊥
@@ -481,7 +483,7 @@ right-judged target L text line shape parts (Err misfits.BadNumber) r fits = (
 )
 
 right-fitted : (target : List ℕ → Option ℕ) (L : List ℕ → ℕ → Type 0) (text : List ℕ) (line : ℕ) (shape : Shape) (read : Option (List Part)) → FindsTargets target L
-    → named general_rows (mnemonic_of text) ≡ Some shape → list_any is_pool_part (texts_of text) ≡ false → parts_in target shape.op 4 (texts_of text) ≡ read
+    → named table_rows (mnemonic_of text) ≡ Some shape → list_any is_pool_part (texts_of text) ≡ false → parts_in target shape.op 4 (texts_of text) ≡ read
     → IsRight L text line (fitted_by shape line (option_map gathered read))
 right-fitted target L text line shape None finds row pool read = (
   inl (mnemonic_of text, texts_of text, has-known text, parts-none target shape.op 4 (texts_of text) read),
@@ -491,7 +493,7 @@ right-fitted target L text line shape (Some parts) finds row pool read =
     right-judged target L text line shape parts (fits_of shape (args_of parts) line) (record { finds = finds; row = row; pool = pool; read = read }) refl
 
 right-pool : (target : List ℕ → Option ℕ) (L : List ℕ → ℕ → Type 0) (text : List ℕ) (line : ℕ) (shape : Shape) (pool : Bool) → FindsTargets target L
-    → named general_rows (mnemonic_of text) ≡ Some shape → list_any is_pool_part (texts_of text) ≡ pool
+    → named table_rows (mnemonic_of text) ≡ Some shape → list_any is_pool_part (texts_of text) ≡ pool
     → IsRight L text line (cond pool (Err PoolRefused) (fitted_by shape line (four_in target shape.op (texts_of text))))
 right-pool target L text line shape true finds row pool = (
   (mnemonic_of text, texts_of text, has-known text, any-such is_pool_part IsPoolPart (texts_of text) pool-known pool),
@@ -501,7 +503,7 @@ right-pool target L text line shape false finds row pool =
     rw (four-parts target shape.op (texts_of text)) (right-fitted target L text line shape (parts_in target shape.op 4 (texts_of text)) finds row pool refl)
 
 right-named : (target : List ℕ → Option ℕ) (L : List ℕ → ℕ → Type 0) (text : List ℕ) (line : ℕ) (row : Option Shape) → FindsTargets target L
-    → named general_rows (mnemonic_of text) ≡ row → IsRight L text line (insn_by target row (texts_of text) line)
+    → named table_rows (mnemonic_of text) ≡ row → IsRight L text line (insn_by target row (texts_of text) line)
 unfolding insn_with
 right-named target L text line None finds row =
     ((mnemonic_of text, texts_of text, has-known text, row), λ other bad. (fault-range L text other bad).0)
@@ -511,7 +513,7 @@ right-named target L text line (Some shape) finds row =
 -- what is answered of a statement is right
 pub statement-right : (target : List ℕ → Option ℕ) (L : List ℕ → ℕ → Type 0) (text : List ℕ) (line : ℕ) → FindsTargets target L → IsRight L text line (statement_of target text line)
 unfolding statement_of
-statement-right target L text line finds = right-named target L text line (named general_rows (mnemonic_of text)) finds refl
+statement-right target L text line finds = right-named target L text line (named table_rows (mnemonic_of text)) finds refl
 
 -- no part of what is written is in a pool
 no-pool_part : (texts : List (List ℕ)) (ws : List Written) → AreWritten texts ws → list_any is_pool_part texts ≡ false
@@ -532,7 +534,7 @@ statement-only target L text line i finds is =
     let has = has-only text is.made.mnemonic is.made.parts is.made.has in
     let pool : list_any is_pool_part (texts_of text) ≡ false =
     ap (list_any is_pool_part) has.1 ∙ no-pool_part is.made.parts is.written is.made.spelled in
-    let row : named general_rows (mnemonic_of text) ≡ Some is.shape = m.0 in
+    let row : named table_rows (mnemonic_of text) ≡ Some is.shape = m.0 in
     let read : parts_in target is.shape.op 4 (texts_of text) ≡ Some (padded 4 (all_parts target is.shape.op is.written)) = m.1 in
     let fits : fits_of is.shape (args_of (padded 4 (all_parts target is.shape.op is.written))) line ≡ Ok i =
     ap (λ (xs : List Operand). fits_of is.shape xs line) m.2 ∙ is.fits in

@@ -120,7 +120,7 @@ number-bare text false n a = amount-bare text n a
 number-bare text true n (amount, is, a) = rw is (amount-bare amount n a)
 
 register-bare : (w n : ℕ) (name : List ℕ) → slice_get (register_names w) n ≡ Some name → lacks 40 name ≡ true
-register-bare w n name there = all-names (lacks 40) w n name refl refl refl refl there
+register-bare w n name there = all-names (lacks 40) w n name (record { all64 = refl; all32 = refl; all16 = refl; all8 = refl; all128 = refl; all256 = refl }) there
 
 -- labels
 

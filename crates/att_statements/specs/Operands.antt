@@ -1,8 +1,8 @@
 -- Numbers and operands of GNU AT&T text, by what stands where in their texts.
-use Rattle.std.specs.Prelude.{◌≡◌, ◌≢◌, ◌⊎◌, ℕ, ◌+◌, ◌-◌, ◌*◌, ◌^◌, ◌<◌, ◌≤◌, ℤ, pos, neg_ℤ, Bool, true, false, ◌&&◌, ◌==◌, not, nat_lt, nat_le, if◌then◌else◌, List, [], ◌∷◌, ◌++◌, length, Option, Some, None, slice_get, codes}
+use Rattle.std.specs.Prelude.{◌≡◌, ◌≢◌, ◌⊎◌, ℕ, ◌+◌, ◌-◌, ◌*◌, ◌^◌, ◌<◌, ◌≤◌, ℤ, pos, neg_ℤ, Bool, true, false, ◌&&◌, ◌||◌, ◌==◌, not, nat_lt, nat_le, if◌then◌else◌, List, [], ◌∷◌, ◌++◌, length, Option, Some, None, slice_get, codes}
 use Rattle.std.specs.List.{list_all}
 use Rattle.insn_table.specs.declared.insn.Operand.{Operand}
-use Rattle.insn_table.specs.declared.insn.Operand.TheVariants.{Reg, Mem}
+use Rattle.insn_table.specs.declared.insn.Operand.TheVariants.{Reg, Vec, Mem}
 use Rattle.insn_table.specs.Table.{IsScale}
 use Rattle.text_lines.specs.Words.{IsName, IsPadded}
 
@@ -50,7 +50,7 @@ IsNumber text true n = (amount : List ℕ) × (text ≡ codes "-" ++ amount) × 
 
 -- registers
 
--- the general registers of w bits, by number
+-- the registers of w bits, by number: general ones of up to 64 bits, vectors of 128 and 256
 abbrev pub register_names : ℕ → List (List ℕ)
 register_names w =
     if w == 64 then
@@ -69,7 +69,19 @@ register_names w =
     codes "al" ∷ codes "cl" ∷ codes "dl" ∷ codes "bl" ∷ codes "spl" ∷ codes "bpl" ∷ codes "sil" ∷ codes "dil"
     ∷ codes "r8b" ∷ codes "r9b" ∷ codes "r10b" ∷ codes "r11b"
     ∷ codes "r12b" ∷ codes "r13b" ∷ codes "r14b" ∷ codes "r15b" ∷ []
+    else if w == 128 then
+    codes "xmm0" ∷ codes "xmm1" ∷ codes "xmm2" ∷ codes "xmm3" ∷ codes "xmm4" ∷ codes "xmm5" ∷ codes "xmm6" ∷ codes "xmm7"
+    ∷ codes "xmm8" ∷ codes "xmm9" ∷ codes "xmm10" ∷ codes "xmm11" ∷ codes "xmm12" ∷ codes "xmm13"
+    ∷ codes "xmm14" ∷ codes "xmm15" ∷ []
+    else if w == 256 then
+    codes "ymm0" ∷ codes "ymm1" ∷ codes "ymm2" ∷ codes "ymm3" ∷ codes "ymm4" ∷ codes "ymm5" ∷ codes "ymm6" ∷ codes "ymm7"
+    ∷ codes "ymm8" ∷ codes "ymm9" ∷ codes "ymm10" ∷ codes "ymm11" ∷ codes "ymm12" ∷ codes "ymm13"
+    ∷ codes "ymm14" ∷ codes "ymm15" ∷ []
     else []
+
+-- register n of w bits as an operand
+abbrev pub register_operand : ℕ → ℕ → Operand
+register_operand w n = if w == 128 || w == 256 then Vec n w else Reg n w
 
 -- `%` and the name of register n of w bits
 pub record IsRegisterText (text : List ℕ) (n w : ℕ) : Type 0 where
@@ -203,7 +215,7 @@ IsOperandText text (Immediate negative n) =
     (number : List ℕ) × (text ≡ codes "$" ++ number) × IsNumber number negative n
 IsOperandText text (Label name) = (text ≡ name) × IsLabelText name
 IsOperandText text (Plain operand) =
-    ((n : ℕ) × (w : ℕ) × IsRegisterText text n w × (operand ≡ Reg n w)) ⊎ IsMemoryText text operand
+    ((n : ℕ) × (w : ℕ) × IsRegisterText text n w × (operand ≡ register_operand w n)) ⊎ IsMemoryText text operand
 
 -- the same of the text with blanks around it
 abbrev pub IsOperandPart : List ℕ → Written → Type 0

@@ -2,11 +2,11 @@
 use Rattle.std.specs.Prelude.{ℕ, ◌+◌, ◌-◌, ◌*◌, ◌^◌, min, ℤ, pos, Bool, true, false, ◌&&◌, ◌||◌, ◌==◌, nat_lt, nat_le, if◌then◌else◌, List, [], ◌∷◌, length, take, Option, Some, None, is_some, option_and_then, slice_index, codes, bytes_eq}
 use Rattle.std.specs.Option.{option_map, option_or}
 use Rattle.insn_table.specs.declared.insn.Operand.{Operand}
-use Rattle.insn_table.specs.declared.insn.Operand.TheVariants.{Reg, Mem}
+use Rattle.insn_table.specs.declared.insn.Operand.TheVariants.{Mem}
 use Rattle.text_lines.specs.Bytes.{is_name_byte}
 use Rattle.text_lines.specs.Words.{is_name, prefix_of, behind_prefix, trim}
 use Rattle.text_lines.specs.Cutting.{cut_at}
-use Rattle.att_statements.specs.Operands.{Written, Immediate, Label, Plain, digit_value, register_names, open_behind, integer}
+use Rattle.att_statements.specs.Operands.{Written, Immediate, Label, Plain, digit_value, register_names, register_operand, open_behind, integer}
 
 infixl 10 ◌>>=◌
 -- what follows, where there is a value
@@ -64,13 +64,14 @@ register_number w name = place_from 0 (register_names w) name
 
 -- the register of w bits with this name
 abbrev pub register_by : ℕ → List ℕ → Option Operand
-register_by w name = option_map (λ (n : ℕ). Reg n w) (register_number w name)
+register_by w name = option_map (register_operand w) (register_number w name)
 
 -- the register with this name
 unfoldable pub register_named : List ℕ → Option Operand
 register_named name =
     option_or (register_by 64 name)
-    (option_or (register_by 32 name) (option_or (register_by 16 name) (register_by 8 name)))
+    (option_or (register_by 32 name) (option_or (register_by 16 name) (option_or (register_by 8 name)
+    (option_or (register_by 128 name) (register_by 256 name)))))
 
 -- commas
 

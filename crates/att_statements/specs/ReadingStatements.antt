@@ -8,7 +8,8 @@ use Rattle.insn_table.specs.declared.insn.Insn.{Insn}
 use Rattle.insn_table.specs.declared.shape.Shape.{Shape}
 use Rattle.insn_table.specs.declared.fitting.Misfit.{Misfit}
 use Rattle.insn_table.specs.declared.fitting.Misfit.TheVariants as misfits
-use Rattle.insn_table.specs.Spellings.{named, general_rows}
+use Rattle.insn_table.specs.Rows.{named}
+use Rattle.insn_table.specs.Spellings.{table_rows}
 use Rattle.insn_table.specs.Forms.{fits_of}
 use Rattle.text_lines.specs.Bytes.{is_blank}
 use Rattle.text_lines.specs.Words.{is_solid, prefix_of, behind_prefix, trim}
@@ -111,5 +112,5 @@ insn_by target (Some shape) texts line = insn_with target shape texts line
 -- the instruction of the statement on this line, or the first kind of fault that it has
 unfoldable pub statement_of : (List ℕ → Option ℕ) → List ℕ → ℕ → Result Insn ReadKind
 statement_of target text line =
-    insn_by target (named general_rows (prefix_of is_solid (shown_of text)))
+    insn_by target (named table_rows (prefix_of is_solid (shown_of text)))
     (operands_of (behind_prefix is_solid (shown_of text))) line

@@ -10,7 +10,8 @@ use Rattle.insn_table.specs.declared.insn.Insn.{Insn}
 use Rattle.insn_table.specs.declared.shape.Shape.{Shape}
 use Rattle.insn_table.specs.declared.fitting.Misfit.{Misfit}
 use Rattle.insn_table.specs.declared.fitting.Misfit.TheVariants as misfits
-use Rattle.insn_table.specs.Spellings.{named, general_rows}
+use Rattle.insn_table.specs.Rows.{named}
+use Rattle.insn_table.specs.Spellings.{table_rows}
 use Rattle.insn_table.specs.Forms.{fits_of}
 use Rattle.text_lines.specs.Bytes.{is_blank}
 use Rattle.text_lines.specs.Words.{IsPadded, HasWord}
@@ -108,7 +109,7 @@ pub record IsMade (L : List ℕ → ℕ → Type 0) (text : List ℕ) (shape : S
   pub mnemonic : List ℕ
   pub parts : List (List ℕ)
   pub has : HasParts text mnemonic parts
-  pub row : named general_rows mnemonic ≡ Some shape
+  pub row : named table_rows mnemonic ≡ Some shape
   pub few : length parts ≤ 4
   pub spelled : AreWritten parts written
   pub stand : StandFor L written operands
@@ -162,7 +163,7 @@ HasPartsOf P text = (mnemonic : List ℕ) × (parts : List (List ℕ)) × HasPar
 
 -- the statement has this fault, whatever else is wrong with it
 abbrev pub IsBadStatement : (List ℕ → ℕ → Type 0) → List ℕ → ReadKind → Type 0
-IsBadStatement L text UnknownInstruction = HasPartsOf (λ mnemonic parts. named general_rows mnemonic ≡ None) text
+IsBadStatement L text UnknownInstruction = HasPartsOf (λ mnemonic parts. named table_rows mnemonic ≡ None) text
 IsBadStatement L text PoolRefused = HasPartsOf (λ mnemonic parts. HasSuch IsPoolPart parts) text
 IsBadStatement L text BadOperand =
     HasPartsOf (λ mnemonic parts. HasNoOperands parts) text ⊎ IsMisfit L text misfits.BadOperand

@@ -1,4 +1,4 @@
-//! General registers by name.
+//! Registers by name.
 ghost use Rattle.std.specs.Prelude.{◌≡◌, ◌≤◌, length, map};
 ghost use Rattle.att_statements.specs.ReadingOperands.{place_from, register_number, register_named};
 
@@ -77,6 +77,34 @@ fn byte_register(name: &[u8]) -> Option<u8>
     )
 }
 
+/// The number of the vector register of 128 bits with this name.
+#[tactic(auto, unfolding(crate::specs::ReadingOperands::register_number))]
+fn low_vector(name: &[u8]) -> Option<u8>
+    ensures { result ≡ register_number 128 name.now }
+{
+    place_in(
+        &[
+            "xmm0", "xmm1", "xmm2", "xmm3", "xmm4", "xmm5", "xmm6", "xmm7", "xmm8", "xmm9",
+            "xmm10", "xmm11", "xmm12", "xmm13", "xmm14", "xmm15",
+        ],
+        name,
+    )
+}
+
+/// The number of the vector register of 256 bits with this name.
+#[tactic(auto, unfolding(crate::specs::ReadingOperands::register_number))]
+fn whole_vector(name: &[u8]) -> Option<u8>
+    ensures { result ≡ register_number 256 name.now }
+{
+    place_in(
+        &[
+            "ymm0", "ymm1", "ymm2", "ymm3", "ymm4", "ymm5", "ymm6", "ymm7", "ymm8", "ymm9",
+            "ymm10", "ymm11", "ymm12", "ymm13", "ymm14", "ymm15",
+        ],
+        name,
+    )
+}
+
 /// The register with this name, of any width.
 #[tactic(auto, unfolding(crate::specs::ReadingOperands::register_named))]
 pub(crate) fn register_named(name: &[u8]) -> Option<Operand>
@@ -91,6 +119,12 @@ pub(crate) fn register_named(name: &[u8]) -> Option<Operand>
     if let Some(n) = short_register(name) {
         return Some(Operand::Reg { n, w: 16 });
     }
-    let n = byte_register(name)?;
-    Some(Operand::Reg { n, w: 8 })
+    if let Some(n) = byte_register(name) {
+        return Some(Operand::Reg { n, w: 8 });
+    }
+    if let Some(n) = low_vector(name) {
+        return Some(Operand::Vec { n, w: 128 });
+    }
+    let n = whole_vector(name)?;
+    Some(Operand::Vec { n, w: 256 })
 }

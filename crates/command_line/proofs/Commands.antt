@@ -1,9 +1,9 @@
 -- From lines to commands: the command that the code reads is the one that the arguments are.
-use Rattle.std.proofs.Common.{◌≡◌, inl, inr, ℕ, ◌<◌, ◌^◌, List, [], ◌∷◌, length, get_or, Option, Some, None, refl, sym, ◌∙◌, ap, ap₂, subst, arith, codes, decimal}
+use Rattle.std.proofs.Common.{◌≡◌, ℕ, ◌<◌, ◌^◌, List, [], ◌∷◌, length, get_or, Some, None, refl, sym, ◌∙◌, ap, ap₂, subst, arith, decimal, ◌==◌, if◌then◌else◌}
 use Rattle.std.specs.List.{AllByRecursion}
 use Rattle.std.specs.Str.Parse.{digits_value}
 use Rattle.std.proofs.lemmas.Fmt.{decimal_is_IsNumeral}
-use Rattle.command_line.specs.Command.{Command, DecidePlain, FunctionArguments, GiveSteps, IsArgument, IsCommand, IsUsageError, Run, RunArguments, plain_of}
+use Rattle.command_line.specs.Command.{Command, DecidePlain, GiveSteps, IsArgument, IsCommand, IsUsageError, Run, Show, plain_of}
 use Rattle.command_line.specs.Parts.{AreRead, Valued}
 use Rattle.command_line.specs.Parser.{AreOf, IsOfForm, name_of}
 use Rattle.command_line.specs.Reading.{Line, Usual, line_in}
@@ -27,6 +27,8 @@ line-of-command arguments (DecidePlain left right) h =
     record { form = form.DecidePlain; behind = h.behind; line = record { options = []; plain = plain_of (DecidePlain left right) }; whole = h.command; each = h.each; read = line-only h.behind [] (plain_of (DecidePlain left right)) h.read; values = (refl, refl) }
 line-of-command arguments (Run run) h =
     record { form = form.Run; behind = h.1.behind; line = record { options = h.0; plain = plain_of (Run run) }; whole = h.1.command; each = h.1.each; read = line-only h.1.behind h.0 (plain_of (Run run)) h.1.read; values = (refl, h.2) }
+line-of-command arguments (Show function) h =
+    record { form = form.Show; behind = h.behind; line = record { options = []; plain = plain_of (Show function) }; whole = h.command; each = h.each; read = line-only h.behind [] (plain_of (Show function)) h.read; values = (refl, refl) }
 
 -- what was read is a command
 pub command-known : (arguments : List (List ℕ)) (command : Command) → HasLine arguments command → IsCommand arguments command
@@ -38,13 +40,14 @@ command-known arguments command h = go h.form command refl h.values
     go : (f : Form) (c : Command) → h.form ≡ f → AreOf f h.line c → IsCommand arguments c
     go form.DecidePlain (DecidePlain left right) is values =
         record { behind = h.behind; command = h.whole ∙ ap (λ f. name_of f ∷ h.behind) is; each = h.each; read = read [] (plain_of (DecidePlain left right)) values.0 values.1 }
-    go form.DecidePlain (Run run) is values = absurd values
-    go form.Run (DecidePlain left right) is values = absurd values
     go form.Run (Run run) is values = (
       h.line.options,
       record { behind = h.behind; command = h.whole ∙ ap (λ f. name_of f ∷ h.behind) is; each = h.each; read = read h.line.options (plain_of (Run run)) refl values.0 },
       values.1,
     )
+    go form.Show (Show function) is values =
+        record { behind = h.behind; command = h.whole ∙ ap (λ f. name_of f ∷ h.behind) is; each = h.each; read = read [] (plain_of (Show function)) values.0 values.1 }
+    go _ _ is values = absurd values
 
 same-behind : {A : Type 0} (a b : A) (xs ys : List A) → a ∷ xs ≡ b ∷ ys → (a ≡ b) × (xs ≡ ys)
 same-behind a b xs ys h = (cc, cc)
@@ -88,32 +91,39 @@ steps-once (o ∷ []) n m g h =
     decimal-once n m (omega arith) (omega arith) (sym g.1.digits ∙ h.1.digits)
 steps-once (o ∷ p ∷ rest) n m g h = absurd g
 
--- four plain arguments as those of a command
+-- plain arguments as those of a command
 abbrev decide_from : List (List ℕ) → Command
 decide_from ws = DecidePlain (record { file = get_or ws 0 []; name = get_or ws 1 [] }) (record { file = get_or ws 2 []; name = get_or ws 3 [] })
 
 abbrev run_from : ℕ → List (List ℕ) → Command
 run_from n ws = Run (record { function = record { file = get_or ws 0 []; name = get_or ws 1 [] }; admission = get_or ws 2 []; tests = get_or ws 3 []; steps = n })
 
+abbrev show_from : List (List ℕ) → Command
+show_from ws = Show (record { file = get_or ws 0 []; name = get_or ws 1 [] })
+
 values-once : (f : Form) (line : Line) (a b : Command) → AreOf f line a → AreOf f line b → a ≡ b
 values-once form.DecidePlain line (DecidePlain l r) (DecidePlain m s) g h = ap decide_from (sym g.1 ∙ h.1)
-values-once form.DecidePlain line (DecidePlain l r) (Run s) g h = absurd h
-values-once form.DecidePlain line (Run r) b g h = absurd g
-values-once form.Run line (DecidePlain l r) b g h = absurd g
-values-once form.Run line (Run r) (DecidePlain m s) g h = absurd h
 values-once form.Run line (Run r) (Run s) g h = ap₂ run_from (steps-once line.options r.steps s.steps g.1 h.1) (sym g.0 ∙ h.0)
+values-once form.Show line (Show l) (Show m) g h = ap show_from (sym g.1 ∙ h.1)
+values-once form.DecidePlain line (DecidePlain l r) _ g h = absurd h
+values-once form.Run line (Run r) _ g h = absurd h
+values-once form.Show line (Show l) _ g h = absurd h
+values-once _ line _ b g h = absurd g
 
-apart : (n m : ℕ) → n < m → n ≡ m → ⊥
-apart n m low e = absurd (omega arith)
+-- the form whose name begins with a letter
+abbrev form_at : ℕ → Form
+form_at letter = if letter == 100 then form.DecidePlain else if letter == 114 then form.Run else form.Show
 
-other-names : codes "decide" ≡ codes "run" → ⊥
-other-names h = apart 100 114 (omega arith) (ap (λ (t : List ℕ). get_or t 0 0) h)
+abbrev first_letter : List ℕ → ℕ
+first_letter name = get_or name 0 0
+
+form-back : (f : Form) → form_at (first_letter (name_of f)) ≡ f
+form-back form.DecidePlain = refl
+form-back form.Run = refl
+form-back form.Show = refl
 
 same-form : (f g : Form) → name_of f ≡ name_of g → f ≡ g
-same-form form.DecidePlain form.DecidePlain h = refl
-same-form form.DecidePlain form.Run h = absurd (other-names h)
-same-form form.Run form.DecidePlain h = absurd (other-names (sym h))
-same-form form.Run form.Run h = refl
+same-form f g h = sym (form-back f) ∙ ap (λ (name : List ℕ). form_at (first_letter name)) h ∙ form-back g
 
 -- the arguments are one command at most
 pub command-once : (arguments : List (List ℕ)) (a b : Command) → IsCommand arguments a → IsCommand arguments b → a ≡ b

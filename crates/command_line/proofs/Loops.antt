@@ -1,9 +1,8 @@
 -- The loop over the arguments.
-use Rattle.std.proofs.Common.{◌≡◌, ◌≢◌, ◌↔◌, ℕ, ◌-◌, ◌<◌, List, [], ◌∷◌, length, take, drop, get_or, Option, Some, None, refl, sym, ◌∙◌, ap, subst, option_map, arith}
+use Rattle.std.proofs.Common.{◌≡◌, ◌≢◌, ◌↔◌, ℕ, ◌-◌, ◌<◌, List, [], ◌∷◌, length, take, drop, get_or, Some, None, refl, sym, ◌∙◌, ap, subst, option_map, arith}
 use Rattle.std.specs.List.{AllByRecursion}
 use Rattle.std.proofs.lemmas.Grind.{common_steps}
 use Rattle.command_line.specs.Command.{IsArgument}
-use Rattle.command_line.specs.Reading as reading
 use Rattle.command_line.specs.Reading.{Item, Line, Mode, Usual, ValueOf, joined, line_in, pushed, turn}
 use Rattle.command_line.specs.View.{mode_view}
 use Rattle.command_line.specs.declared.line.Mode as seen

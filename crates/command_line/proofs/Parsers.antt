@@ -1,23 +1,22 @@
 -- What `clap` makes of the words of a command: it takes them, and its matches have the values.
-use Rattle.std.proofs.Common.{◌≡◌, ◌∙◌, ◌&&◌, ◌++◌, ◌<◌, ◌^◌, ap, sym, subst, refl, arith, codes, decimal, false, true, Bool, map, Option, Some, None, List, [], ◌∷◌, ℕ}
+use Rattle.std.proofs.Common.{◌≡◌, ◌∙◌, ◌&&◌, ◌++◌, ◌<◌, ◌^◌, ap, sym, subst, refl, arith, codes, decimal, false, true, Bool, map, Some, List, [], ◌∷◌, ℕ}
 use Rattle.std.specs.Fmt.{digits}
 use Rattle.std.specs.Str.Parse.{IsNumeral, digits_value, without_leading_plus}
 use Rattle.std.proofs.lemmas.Fmt.{decimal_is_IsNumeral}
 use Rattle.std.proofs.lemmas.Str.Parse.{without_leading_plus_none, digit_from_value}
-use Rattle.clap.specs.Words.{Accepts, App, Row, Text, found_of, first_of, is_simple, matches_of, one_of, rows_of, takes}
+use Rattle.clap.specs.Words.{Accepts, App, Text, found_of, first_of, is_simple, matches_of, one_of, rows_of, takes}
 use Rattle.clap.specs.ValueTests.{accepts}
 use Rattle.clap.specs.declared.builder.value_parser.ValueParser.TheVariants as vp
 use Rattle.clap.specs.declared.parser.matches.ArgMatches.{ArgMatches}
 use Rattle.clap.proofs.OnLiterals.{clap_on_literals}
 use Rattle.clap.proofs.ValueTestLemmas.{Accepts-accepts}
 use Rattle.clap.proofs.WalkLemmas.{first_value-rows, one_text-rows}
-use Rattle.command_line.specs.Command.{Command, DecidePlain, FunctionArguments, GiveSteps, IsNumberWithin, Run, RunArguments, plain_of}
+use Rattle.command_line.specs.Command.{Command, DecidePlain, GiveSteps, IsNumberWithin, Run, Show}
 use Rattle.command_line.specs.Parts.{Valued}
-use Rattle.command_line.specs.Reading.{Line}
-use Rattle.command_line.specs.Parser.{AreOf, AreWords, Gives, GivesCommand, decide_parser, joined_option, name_of, parser_words, run_parser}
+use Rattle.command_line.specs.Parser.{AreWords, Gives, GivesCommand, decide_parser, joined_option, run_parser, show_parser}
 use Rattle.command_line.specs.declared.command.Form.TheVariants as form
 
--- ---- the words of each form, with four plain arguments
+-- ---- the words of each form, with their plain arguments
 
 abbrev decide_words : Text → Text → Text → Text → List Text
 decide_words a b c d = codes "decide" ∷ codes "--" ∷ a ∷ b ∷ c ∷ d ∷ []
@@ -28,6 +27,9 @@ run_words options a b c d = codes "run" ∷ (map joined_option options ++ codes 
 abbrev steps_words : Text → Text → Text → Text → Text → List Text
 steps_words v a b c d = codes "run" ∷ (codes "--steps" ++ codes "=" ++ v) ∷ codes "--" ∷ a ∷ b ∷ c ∷ d ∷ []
 
+abbrev show_words : Text → Text → List Text
+show_words a b = codes "show" ∷ codes "--" ∷ a ∷ b ∷ []
+
 -- the parser is one whose matches are known
 pub decide-simple : is_simple decide_parser ≡ true
 unfolding clap_on_literals
@@ -36,6 +38,10 @@ decide-simple = refl
 pub run-simple : is_simple run_parser ≡ true
 unfolding clap_on_literals
 run-simple = refl
+
+pub show-simple : is_simple show_parser ≡ true
+unfolding clap_on_literals
+show-simple = refl
 
 decide-taken : (a b c d : Text) → takes decide_parser (decide_words a b c d) ≡ true
 unfolding clap_on_literals
@@ -56,6 +62,18 @@ decide-right a b c d = refl
 decide-right_function : (a b c d : Text) → first_of (codes "right_function") (matches_of decide_parser (decide_words a b c d)) ≡ Some d
 unfolding clap_on_literals
 decide-right_function a b c d = refl
+
+show-taken : (a b : Text) → takes show_parser (show_words a b) ≡ true
+unfolding clap_on_literals
+show-taken a b = refl
+
+show-file : (a b : Text) → first_of (codes "file") (matches_of show_parser (show_words a b)) ≡ Some a
+unfolding clap_on_literals
+show-file a b = refl
+
+show-function : (a b : Text) → first_of (codes "function") (matches_of show_parser (show_words a b)) ≡ Some b
+unfolding clap_on_literals
+show-function a b = refl
 
 no_plus : (ds : List ℕ) → IsNumeral 10 ds → without_leading_plus ds ≡ ds
 no_plus [] h = refl
@@ -146,14 +164,18 @@ run-steps (o ∷ p ∷ rest) n a b c d g = absurd g
 
 -- the words of a command are taken, so a parse fails for want of memory alone
 pub decide-passes : (words : List Text) (c : Command) → AreWords form.DecidePlain words c → takes decide_parser words ≡ true
-decide-passes words (Run run) h = absurd h.values
 decide-passes words (DecidePlain left right) h =
     rw (h.whole, h.values.0, h.values.1) (decide-taken left.file left.name right.file right.name)
+decide-passes words _ h = absurd h.values
 
 pub run-passes : (words : List Text) (c : Command) → AreWords form.Run words c → takes run_parser words ≡ true
-run-passes words (DecidePlain left right) h = absurd h.values
 run-passes words (Run run) h =
     rw (h.whole, h.values.0) (run-taken h.line.options run.steps run.function.file run.function.name run.admission run.tests h.values.1)
+run-passes words _ h = absurd h.values
+
+pub show-passes : (words : List Text) (c : Command) → AreWords form.Show words c → takes show_parser words ≡ true
+show-passes words (Show function) h = rw (h.whole, h.values.0, h.values.1) (show-taken function.file function.name)
+show-passes words _ h = absurd h.values
 
 first-known : (m : ArgMatches) (app : App) (words : List Text) (id text : Text) → rows_of (found_of m) ≡ matches_of app words
     → first_of id (matches_of app words) ≡ Some text → Gives m id text
@@ -162,7 +184,6 @@ first-known m app words id text rows h = first_value-rows (found_of m) id ∙ ap
 -- the matches have the values of the command
 pub decide-gives : (m : ArgMatches) (words : List Text) (c : Command) → AreWords form.DecidePlain words c → rows_of (found_of m) ≡ matches_of decide_parser words
     → GivesCommand m c
-decide-gives m words (Run run) h rows = absurd h.values
 decide-gives m words (DecidePlain left right) h rows =
     let is : words ≡ decide_words left.file left.name right.file right.name = rw (h.whole, h.values.0, h.values.1) refl in
     let known : rows_of (found_of m) ≡ matches_of decide_parser (decide_words left.file left.name right.file right.name) = rows ∙ ap (matches_of decide_parser) is in (
@@ -171,6 +192,7 @@ decide-gives m words (DecidePlain left right) h rows =
       first-known m decide_parser (decide_words left.file left.name right.file right.name) (codes "right") right.file known (decide-right left.file left.name right.file right.name),
       first-known m decide_parser (decide_words left.file left.name right.file right.name) (codes "right_function") right.name known (decide-right_function left.file left.name right.file right.name),
     )
+decide-gives m words _ h rows = absurd h.values
 
 steps-small : (options : List Valued) (n : ℕ) → GiveSteps options n → n < 2 ^ 64
 steps-small [] n g = omega arith
@@ -178,7 +200,6 @@ steps-small (o ∷ []) n g = let few = g.1.few in omega arith
 steps-small (o ∷ p ∷ rest) n g = absurd g
 
 pub run-gives : (m : ArgMatches) (words : List Text) (c : Command) → AreWords form.Run words c → rows_of (found_of m) ≡ matches_of run_parser words → GivesCommand m c
-run-gives m words (DecidePlain left right) h rows = absurd h.values
 run-gives m words (Run run) h rows =
     let o = h.line.options in
     let g = h.values.1 in
@@ -193,3 +214,13 @@ run-gives m words (Run run) h rows =
       one_text-rows (found_of m) (codes "steps") ∙ ap (one_of (codes "steps")) known ∙ run-steps o run.steps a b run.admission run.tests g,
       steps-small o run.steps g,
     )
+run-gives m words _ h rows = absurd h.values
+
+pub show-gives : (m : ArgMatches) (words : List Text) (c : Command) → AreWords form.Show words c → rows_of (found_of m) ≡ matches_of show_parser words → GivesCommand m c
+show-gives m words (Show function) h rows =
+    let is : words ≡ show_words function.file function.name = rw (h.whole, h.values.0, h.values.1) refl in
+    let known : rows_of (found_of m) ≡ matches_of show_parser (show_words function.file function.name) = rows ∙ ap (matches_of show_parser) is in (
+      first-known m show_parser (show_words function.file function.name) (codes "file") function.file known (show-file function.file function.name),
+      first-known m show_parser (show_words function.file function.name) (codes "function") function.name known (show-function function.file function.name),
+    )
+show-gives m words _ h rows = absurd h.values

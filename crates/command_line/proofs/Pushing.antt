@@ -1,5 +1,5 @@
 -- Words that are pushed one after another, and what a number's text reads as.
-use Rattle.std.proofs.Common.{◌≡◌, ◌∙◌, ◌<◌, ◌^◌, ℕ, List, [], ◌∷◌, ◌++◌, append-nil, append_assoc, length, take, drop, get_or, ◌-◌, map, decimal, Bor, codes, Global, Option, Some, None, String, refl, string_bytes, sym, ap, subst, arith}
+use Rattle.std.proofs.Common.{◌≡◌, ◌∙◌, ◌<◌, ◌^◌, ℕ, List, [], ◌∷◌, ◌++◌, append-nil, append_assoc, length, take, drop, get_or, ◌-◌, map, decimal, Bor, codes, Global, Option, Some, None, String, refl, string_bytes, sym, ap, arith}
 use Rattle.std.specs.Prelude.{Err, Ok, Result}
 use Rattle.std.proofs.lemmas.List.{map_push}
 use Rattle.std.specs.Str.Parse.{ParsesUnsigned}

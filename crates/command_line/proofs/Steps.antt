@@ -3,7 +3,7 @@ use Rattle.std.proofs.Common.{◌≡◌, ◌↔◌, ◌<◌, ◌≤◌, ℕ, Boo
 use Rattle.std.proofs.lemmas.List.{length-map}
 use Rattle.std.proofs.lemmas.Result.{IfOk-weaker}
 use Rattle.command_line.specs.Command as plain
-use Rattle.command_line.specs.Command.{DecidePlain, FunctionArguments, GiveSteps, IsNumberWithin, Run, plain_of}
+use Rattle.command_line.specs.Command.{DecidePlain, FunctionArguments, GiveSteps, IsNumberWithin, Run, Show, plain_of}
 use Rattle.command_line.specs.Parser.{AreOf, AreWords, name_of, parser_words}
 use Rattle.command_line.specs.Reading.{Line}
 use Rattle.command_line.specs.View.{command_view, line_view, option_view}
@@ -71,6 +71,19 @@ run-form l many steps =
     let ws = (line_view l).plain in
     let count : length ws ≡ 4 = length-map l.plain.items (λ text. text.now) ∙ many in
     (Run (record { function = function_at ws 0 1; admission = get_or ws 2 []; tests = get_or ws 3 []; steps = steps.0 }), (four ws count, steps.1))
+
+two : (ws : List (List ℕ)) → length ws ≡ 2 → ws ≡ get_or ws 0 [] ∷ get_or ws 1 [] ∷ []
+two [] h = absurd (omega arith)
+two (a ∷ []) h = absurd (omega arith)
+two (a ∷ b ∷ []) h = refl
+two (a ∷ b ∷ c ∷ ws) h = absurd (omega arith)
+
+-- a line of two plain arguments and no option is one to show
+pub show-form : (l : seen.Line) → length l.plain.items ≡ 2 → length l.options.items ≡ 0 → (c : plain.Command) × AreOf form.Show (line_view l) c
+show-form l many few =
+    let ws = (line_view l).plain in
+    let count : length ws ≡ 2 = length-map l.plain.items (λ text. text.now) ∙ many in
+    (Show (function_at ws 0 1), (ap (map option_view) (none l.options.items few), two ws count))
 
 -- the words that were made are those of the command
 pub made-words : (f g : Form) (l : Line) (slice items : List (String Global)) (c : plain.Command) → f ≡ g → AreOf f l c → slice ≡ items

@@ -1,5 +1,5 @@
 -- Single arguments: what the code makes of one is what the rule says.
-use Rattle.std.proofs.Common.{◌≡◌, ◌≢◌, ◌⊎◌, inl, inr, ℕ, suc, ◌+◌, ◌<◌, ◌≤◌, Bool, true, false, cond, not, ◌&&◌, List, [], ◌∷◌, ◌++◌, length, take, drop, get_or, Option, Some, None, refl, sym, ◌∙◌, ap, ap₂, subst, arith, option_map, bytes_eq, codes, eqb}
+use Rattle.std.proofs.Common.{◌≡◌, ◌≢◌, ◌⊎◌, inl, inr, ℕ, suc, ◌+◌, ◌<◌, Bool, true, false, cond, not, ◌&&◌, List, [], ◌∷◌, ◌++◌, length, take, drop, get_or, Option, Some, None, refl, sym, ◌∙◌, ap, subst, arith, bytes_eq, codes, eqb}
 use Rattle.std.specs.Prelude.{⊤}
 use Rattle.std.specs.List.{after_first, before_first, list_all, position_or_len, prefix_len}
 use Rattle.std.proofs.Math.Seq.{take-append_seam, drop-append-add}
@@ -8,7 +8,7 @@ use Rattle.std.proofs.lemmas.Bool.{and_parts, eqb-false, eqb-true, ne_eqb}
 use Rattle.std.proofs.lemmas.List.{length-append}
 use Rattle.std.proofs.lemmas.List.Sums.{prefix_len-le-length, prefix_len_stops, split_at_first}
 use Rattle.std.proofs.lemmas.Slice.Eq.{bytes_eq-Decides}
-use Rattle.command_line.specs.Parts.{AreRead, IsFlag, Valued, is_bare, is_dashed, is_long}
+use Rattle.command_line.specs.Parts.{IsFlag, is_bare, is_long}
 use Rattle.command_line.specs.Reading.{AllPlain, Bare, Item, Mode, Nothing, Usual, ValueOf, WithValue, dashed_turn, is_equals, usual_turn}
 
 abbrev no_equals : ℕ → Bool

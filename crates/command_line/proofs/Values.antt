@@ -1,8 +1,8 @@
 -- The values that matches give are those of the command.
-use Rattle.std.proofs.Common.{◌≡◌, ℕ, List, ◌<◌, ◌^◌, Some, Option, sym, ◌∙◌, ap, ap₂, decimal, codes}
+use Rattle.std.proofs.Common.{◌≡◌, ℕ, List, ◌<◌, ◌^◌, Some, sym, ◌∙◌, ap₂, decimal, codes}
 use Rattle.clap.specs.Words.{found_of, one_text}
 use Rattle.clap.specs.declared.parser.matches.ArgMatches.{ArgMatches}
-use Rattle.command_line.specs.Command.{Command, DecidePlain, FunctionArguments, Run, RunArguments}
+use Rattle.command_line.specs.Command.{Command, DecidePlain, FunctionArguments, Run, RunArguments, Show}
 use Rattle.command_line.specs.Parser.{AreWords, Gives, GivesCommand}
 use Rattle.command_line.specs.declared.command.Form.TheVariants as form
 
@@ -14,14 +14,13 @@ same-text m id a b g h = let e : Some a ≡ Some b = sym g ∙ h in cc
 pub decide-has : (m : ArgMatches) (words : List (List ℕ)) (c : Command) → AreWords form.DecidePlain words c → GivesCommand m c
     → ((a : List ℕ) × Gives m (codes "left") a) × ((a : List ℕ) × Gives m (codes "left_function") a)
     × ((a : List ℕ) × Gives m (codes "right") a) × ((a : List ℕ) × Gives m (codes "right_function") a)
-decide-has m words (Run r) are g = absurd are.values
 decide-has m words (DecidePlain l r) are g = ((l.file, g.0), (l.name, g.1), (r.file, g.2), (r.name, g.3))
+decide-has m words _ are g = absurd are.values
 
 -- and these are its values
 pub decide-is : (m : ArgMatches) (words : List (List ℕ)) (c : Command) (a b d e : List ℕ) → AreWords form.DecidePlain words c → GivesCommand m c
     → Gives m (codes "left") a → Gives m (codes "left_function") b → Gives m (codes "right") d → Gives m (codes "right_function") e
     → DecidePlain (record { file = a; name = b }) (record { file = d; name = e }) ≡ c
-decide-is m words (Run r) a b d e are g ga gb gd ge = absurd are.values
 decide-is m words (DecidePlain l r) a b d e are g ga gb gd ge =
     let p = same-text m (codes "left") a l.file ga g.0 in
     let q = same-text m (codes "left_function") b l.name gb g.1 in
@@ -30,21 +29,21 @@ decide-is m words (DecidePlain l r) a b d e are g ga gb gd ge =
     ap₂ (λ (x y : FunctionArguments). DecidePlain x y)
     (ap₂ (λ (x y : List ℕ). record { file = x; name = y }) p q)
     (ap₂ (λ (x y : List ℕ). record { file = x; name = y }) s t)
+decide-is m words _ a b d e are g ga gb gd ge = absurd are.values
 
 -- a command to run whose words are parsed has values
 pub run-has : (m : ArgMatches) (words : List (List ℕ)) (c : Command) → AreWords form.Run words c → GivesCommand m c
     → ((a : List ℕ) × Gives m (codes "file") a) × ((a : List ℕ) × Gives m (codes "function") a)
     × ((a : List ℕ) × Gives m (codes "admission") a) × ((a : List ℕ) × Gives m (codes "tests") a)
     × ((n : ℕ) × (one_text (found_of m) (codes "steps") ≡ Some (decimal n)) × (n < 2 ^ 64))
-run-has m words (DecidePlain l r) are g = absurd are.values
 run-has m words (Run r) are g = ((r.function.file, g.0), (r.function.name, g.1), (r.admission, g.2), (r.tests, g.3), (r.steps, g.4, g.5))
+run-has m words _ are g = absurd are.values
 
 -- and these are its values
 pub run-is : (m : ArgMatches) (words : List (List ℕ)) (c : Command) (a b d e : List ℕ) (k : ℕ) → AreWords form.Run words c → GivesCommand m c
     → Gives m (codes "file") a → Gives m (codes "function") b → Gives m (codes "admission") d → Gives m (codes "tests") e
     → ((n : ℕ) → one_text (found_of m) (codes "steps") ≡ Some (decimal n) → n < 2 ^ 64 → k ≡ n)
     → Run (record { function = record { file = a; name = b }; admission = d; tests = e; steps = k }) ≡ c
-run-is m words (DecidePlain l r) a b d e k are g ga gb gd ge gk = absurd are.values
 run-is m words (Run r) a b d e k are g ga gb gd ge gk =
     let p = same-text m (codes "file") a r.function.file ga g.0 in
     let q = same-text m (codes "function") b r.function.name gb g.1 in
@@ -55,3 +54,19 @@ run-is m words (Run r) a b d e k are g ga gb gd ge gk =
     (ap₂ (λ (x y : List ℕ). record { file = x; name = y }) p q)
     (ap₂ (λ (x : ℕ) (y : RunArguments). record y { steps = x }) u
     (ap₂ (λ (x y : List ℕ). record { function = r.function; admission = x; tests = y; steps = r.steps }) s t))
+run-is m words _ a b d e k are g ga gb gd ge gk = absurd are.values
+
+-- a command to show whose words are parsed has values
+pub show-has : (m : ArgMatches) (words : List (List ℕ)) (c : Command) → AreWords form.Show words c → GivesCommand m c
+    → ((a : List ℕ) × Gives m (codes "file") a) × ((a : List ℕ) × Gives m (codes "function") a)
+show-has m words (Show f) are g = ((f.file, g.0), (f.name, g.1))
+show-has m words _ are g = absurd are.values
+
+-- and these are its values
+pub show-is : (m : ArgMatches) (words : List (List ℕ)) (c : Command) (a b : List ℕ) → AreWords form.Show words c → GivesCommand m c
+    → Gives m (codes "file") a → Gives m (codes "function") b → Show (record { file = a; name = b }) ≡ c
+show-is m words (Show f) a b are g ga gb =
+    let p = same-text m (codes "file") a f.file ga g.0 in
+    let q = same-text m (codes "function") b f.name gb g.1 in
+    ap₂ (λ (x y : List ℕ). Show (record { file = x; name = y })) p q
+show-is m words _ a b are g ga gb = absurd are.values

@@ -19,6 +19,7 @@ pub record RunArguments : Type 0 where
 pub data Command : Type 0 where
   DecidePlain : FunctionArguments → FunctionArguments → Command  -- `decide LEFT F RIGHT G`
   Run : RunArguments → Command  -- `run FILE F ADMIT TESTS`, with or without `--steps N`
+  Show : FunctionArguments → Command  -- `show FILE F`
 
 -- an argument is text, and not empty
 pub record IsArgument (argument : List ℕ) : Type 0 where
@@ -49,12 +50,14 @@ GiveSteps (first ∷ second ∷ rest) steps = ⊥
 abbrev pub plain_of : Command → List (List ℕ)
 plain_of (DecidePlain left right) = left.file ∷ left.name ∷ right.file ∷ right.name ∷ []
 plain_of (Run run) = run.function.file ∷ run.function.name ∷ run.admission ∷ run.tests ∷ []
+plain_of (Show function) = function.file ∷ function.name ∷ []
 
 -- the arguments are this command
 abbrev pub IsCommand : List (List ℕ) → Command → Type 0
 IsCommand arguments (DecidePlain left right) = IsLine arguments (codes "decide") [] (plain_of (DecidePlain left right))
 IsCommand arguments (Run run) =
     (options : List Valued) × IsLine arguments (codes "run") options (plain_of (Run run)) × GiveSteps options run.steps
+IsCommand arguments (Show function) = IsLine arguments (codes "show") [] (plain_of (Show function))
 
 -- the arguments are no command
 abbrev pub IsUsageError : List (List ℕ) → Type 0

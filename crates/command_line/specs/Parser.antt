@@ -3,7 +3,7 @@ use Rattle.std.specs.Prelude.{◌≡◌, ℕ, ◌<◌, ◌^◌, List, [], ◌∷
 use Rattle.clap.specs.Words.{App, Rule, first_value, found_of, new_app, new_rule, one_text, with_rule}
 use Rattle.clap.specs.declared.builder.value_parser.ValueParser.TheVariants as vp
 use Rattle.clap.specs.declared.parser.matches.ArgMatches.{ArgMatches}
-use Rattle.command_line.specs.Command.{Command, DecidePlain, FunctionArguments, GiveSteps, Run, RunArguments, plain_of}
+use Rattle.command_line.specs.Command.{Command, DecidePlain, GiveSteps, Run, Show, plain_of}
 use Rattle.command_line.specs.Parts.{Valued}
 use Rattle.command_line.specs.Reading.{Line}
 use Rattle.command_line.specs.declared.command.Form.{Form}
@@ -13,13 +13,14 @@ use Rattle.command_line.specs.declared.command.Form.TheVariants as form
 abbrev pub name_of : Form → List ℕ
 name_of form.DecidePlain = codes "decide"
 name_of form.Run = codes "run"
+name_of form.Show = codes "show"
 
 -- options and plain arguments are those of this command, which has this form
 abbrev pub AreOf : Form → Line → Command → Type 0
 AreOf form.DecidePlain line (DecidePlain left right) = (line.options ≡ []) × (line.plain ≡ plain_of (DecidePlain left right))
-AreOf form.DecidePlain line (Run run) = ⊥
-AreOf form.Run line (DecidePlain left right) = ⊥
 AreOf form.Run line (Run run) = (line.plain ≡ plain_of (Run run)) × GiveSteps line.options run.steps
+AreOf form.Show line (Show function) = (line.options ≡ []) × (line.plain ≡ plain_of (Show function))
+AreOf _ line command = ⊥
 
 -- the name, the options and the plain arguments are those of some command of this form
 abbrev pub IsOfForm : List ℕ → Line → Form → Type 0
@@ -50,8 +51,12 @@ decide_parser =
 -- the parser of `run FILE F ADMIT TESTS`
 abbrev pub run_parser : App
 run_parser =
-    with_rule (with_rule (with_rule (with_rule (with_rule (new_app (codes "run")) steps_rule) (new_rule (codes "file"))) (new_rule (codes "function")))
-    (new_rule (codes "admission"))) (new_rule (codes "tests"))
+    with_rule (with_rule (with_rule (with_rule (with_rule (new_app (codes "run")) steps_rule) (new_rule (codes "file")))
+    (new_rule (codes "function"))) (new_rule (codes "admission"))) (new_rule (codes "tests"))
+
+-- the parser of `show FILE F`
+abbrev pub show_parser : App
+show_parser = with_rule (with_rule (new_app (codes "show")) (new_rule (codes "file"))) (new_rule (codes "function"))
 
 -- the words are those of this command, which has this form
 pub record AreWords (form : Form) (words : List (List ℕ)) (command : Command) : Type 0 where
@@ -72,3 +77,4 @@ GivesCommand matches (Run run) =
     Gives matches (codes "file") run.function.file × Gives matches (codes "function") run.function.name
     × Gives matches (codes "admission") run.admission × Gives matches (codes "tests") run.tests
     × (one_text (found_of matches) (codes "steps") ≡ Some (decimal run.steps)) × (run.steps < 2 ^ 64)
+GivesCommand matches (Show function) = Gives matches (codes "file") function.file × Gives matches (codes "function") function.name

@@ -4,7 +4,7 @@ use Rattle.command_line.specs.Command as command
 use Rattle.command_line.specs.Parts as parts
 use Rattle.command_line.specs.Reading as reading
 use Rattle.command_line.specs.declared.command.Command.{Command}
-use Rattle.command_line.specs.declared.command.Command.TheVariants.{DecidePlain, Run}
+use Rattle.command_line.specs.declared.command.Command.TheVariants.{DecidePlain, Run, Show}
 use Rattle.command_line.specs.declared.command.FunctionArguments.{FunctionArguments}
 use Rattle.command_line.specs.declared.command.RunArguments.{RunArguments}
 use Rattle.command_line.specs.declared.line.Item.{Item}
@@ -51,3 +51,4 @@ run_view arguments = record {
 abbrev pub command_view : Command → command.Command
 command_view (DecidePlain left right) = command.DecidePlain (function_view left) (function_view right)
 command_view (Run arguments) = command.Run (run_view arguments)
+command_view (Show function) = command.Show (function_view function)

@@ -26,6 +26,8 @@ pub enum Command {
     DecidePlain(FunctionArguments, FunctionArguments),
     /// `run FILE F ADMIT TESTS`, with or without `--steps N`
     Run(RunArguments),
+    /// `show FILE F`
+    Show(FunctionArguments),
 }
 
 /// The form of a command.
@@ -35,4 +37,6 @@ pub enum Form {
     DecidePlain,
     /// `run FILE F ADMIT TESTS`, with or without `--steps N`
     Run,
+    /// `show FILE F`
+    Show,
 }

@@ -68,8 +68,22 @@ pub fn parser_words(alloc: Global, name: &str, line: &Line<'_>) -> Result<Vec<St
     Ok(words)
 }
 
+/// Adds two plain arguments, by their names.
+fn with_two<'a>(
+    alloc: Global,
+    parser: clap::Command<'a>,
+    first: &'a str,
+    second: &'a str,
+) -> Result<clap::Command<'a>, AllocError>
+    ensures { IfOk result (λ p. app_of p
+        ≡ with_rule (with_rule (app_of parser.entry) (new_rule first.entry.now)) (new_rule second.entry.now)) }
+{
+    let parser = parser.arg(Arg::new(alloc, first))?;
+    parser.arg(Arg::new(alloc, second))
+}
+
 /// Adds four plain arguments, by their names.
-fn with_plain<'a>(
+fn with_four<'a>(
     alloc: Global,
     parser: clap::Command<'a>,
     first: &'a str,
@@ -80,10 +94,8 @@ fn with_plain<'a>(
     ensures { IfOk result (λ p. app_of p ≡ with_rule (with_rule (with_rule (with_rule (app_of parser.entry)
         (new_rule first.entry.now)) (new_rule second.entry.now)) (new_rule third.entry.now)) (new_rule fourth.entry.now)) }
 {
-    let parser = parser.arg(Arg::new(alloc, first))?;
-    let parser = parser.arg(Arg::new(alloc, second))?;
-    let parser = parser.arg(Arg::new(alloc, third))?;
-    parser.arg(Arg::new(alloc, fourth))
+    let parser = with_two(alloc, parser, first, second)?;
+    with_two(alloc, parser, third, fourth)
 }
 
 /// Parses the words of `decide LEFT F RIGHT G`.
@@ -94,7 +106,7 @@ fn decide_matches<'a>(alloc: Global, words: &'a [String]) -> Result<ArgMatches<'
         → IfErr result (λ e. kind_of e ≡ ErrorKind.OutOfMemory) }
 {
     let empty = clap::Command::new(alloc, "decide");
-    let parser = with_plain(
+    let parser = with_four(
         alloc,
         empty,
         "left",
@@ -117,7 +129,19 @@ fn run_matches<'a>(alloc: Global, words: &'a [String]) -> Result<ArgMatches<'a>,
         .value_parser(ValueParser::unsigned(1, 65_536))
         .default_value("20000");
     let optioned = clap::Command::new(alloc, "run").arg(steps)?;
-    let parser = with_plain(alloc, optioned, "file", "function", "admission", "tests")?;
+    let parser = with_four(alloc, optioned, "file", "function", "admission", "tests")?;
+    parser.try_get_matches_from(words)
+}
+
+/// Parses the words of `show FILE F`.
+fn show_matches<'a>(alloc: Global, words: &'a [String]) -> Result<ArgMatches<'a>, Error>
+    ensures ok { (c : plain.Command) → AreWords form.Show (map string_bytes words.entry.now) c
+        → IfOk result (λ matches. GivesCommand matches c) }
+    ensures err { (c : plain.Command) → AreWords form.Show (map string_bytes words.entry.now) c
+        → IfErr result (λ e. kind_of e ≡ ErrorKind.OutOfMemory) }
+{
+    let empty = clap::Command::new(alloc, "show");
+    let parser = with_two(alloc, empty, "file", "function")?;
     parser.try_get_matches_from(words)
 }
 
@@ -177,5 +201,20 @@ pub fn run_of(alloc: Global, words: &[String]) -> Result<Command, Memory>
         admission,
         tests,
         steps: steps_of(&matches),
+    }))
+}
+
+/// The command to show whose words these are.
+pub fn show_of(alloc: Global, words: &[String]) -> Result<Command, Memory>
+    requires { (c : plain.Command) × AreWords form.Show (map string_bytes words.now) c }
+    ensures { IfOk result (λ found. (c : plain.Command) → AreWords form.Show (map string_bytes words.now) c
+        → command_view found ≡ c) }
+{
+    let Ok(matches) = show_matches(alloc, words) else {
+        return Err(Memory);
+    };
+    Ok(Command::Show(FunctionArguments {
+        file: word_of(alloc, &matches, "file")?,
+        name: word_of(alloc, &matches, "function")?,
     }))
 }

@@ -10,7 +10,7 @@ use crate::command;
 use crate::command::Command;
 use crate::line::{Line, Valued, line_of};
 use crate::number::number_within;
-use crate::parser::{decide_of, parser_words, run_of};
+use crate::parser::{decide_of, parser_words, run_of, show_of};
 use align_base::{Memory, Word};
 use std::alloc::{AllocError, Global};
 
@@ -43,14 +43,15 @@ fn form_of(alloc: Global, name: &[u8], line: &Line<'_>) -> Result<Option<command
     ensures some { IfOk result (λ found. IfSome found (IsOfForm name.now (line_view line.now))) }
     ensures none { IfOk result (λ found. IfNone found ((form : Form) → IsOfForm name.now (line_view line.now) form → ⊥)) }
 {
-    if line.plain.len() != 4 {
-        return Ok(None);
-    }
-    if name == b"decide".as_slice() && line.options.is_empty() {
+    let plain = line.plain.len();
+    if name == b"decide".as_slice() && plain == 4 && line.options.is_empty() {
         return Ok(Some(command::Form::DecidePlain));
     }
-    if name == b"run".as_slice() && are_steps(alloc, line)? {
+    if name == b"run".as_slice() && plain == 4 && are_steps(alloc, line)? {
         return Ok(Some(command::Form::Run));
+    }
+    if name == b"show".as_slice() && plain == 2 && line.options.is_empty() {
+        return Ok(Some(command::Form::Show));
     }
     Ok(None)
 }
@@ -68,6 +69,10 @@ fn values_of(alloc: Global, form: command::Form, line: &Line<'_>) -> Result<Comm
         command::Form::Run => {
             let words = parser_words(alloc, "run", line)?;
             run_of(alloc, words.as_slice())
+        }
+        command::Form::Show => {
+            let words = parser_words(alloc, "show", line)?;
+            show_of(alloc, words.as_slice())
         }
     }
 }

@@ -1,20 +1,30 @@
 -- At most one form of an operation takes given operands.
-use Rattle.std.proofs.Common.{◌≡◌, ℕ, ◌+◌, ◌≤◌, Bool, true, false, cond, if◌then◌else◌, List, [], ◌∷◌, refl, arith}
+use Rattle.std.proofs.Common.{◌≡◌, ℕ, zero, suc, ◌+◌, ◌≤◌, Bool, true, false, cond, if◌then◌else◌, List, [], ◌∷◌, Some, slice_get, refl, sym, subst, arith}
 use Rattle.std.specs.List.{count_by}
 use Rattle.std.specs.Cmp.Lexicographic.{pointwise}
 use Rattle.std.proofs.lemmas.List.Sums.{count_by-le-length}
+use Rattle.std.proofs.lemmas.Option.{same_Some}
 use Rattle.align_base.specs.declared.op.Op.{Op}
-use Rattle.align_base.specs.declared.op.Op.TheVariants.{Cmov, Imul}
+use Rattle.align_base.specs.declared.op.Op.TheVariants.{Cmov, Imul, Vector}
+use Rattle.align_base.specs.declared.vector_op.VectorOp.{VectorOp}
+use Rattle.align_base.specs.declared.vector_op.VectorOp.TheVariants.{Moving}
+use Rattle.align_base.specs.declared.vector_op.MoveOp.{MoveOp}
+use Rattle.align_base.specs.declared.vector_op.MoveOp.TheVariants as moves
 use Rattle.insn_table.specs.declared.insn.Operand.{Operand}
-use Rattle.insn_table.specs.declared.insn.Operand.TheVariants.{Imm, Nothing}
-use Rattle.insn_table.specs.declared.forms.Class.{Class}
-use Rattle.insn_table.specs.declared.forms.Class.TheVariants.{Register, Readable, Immediate, Absent}
-use Rattle.insn_table.specs.Forms.{Form, two, three, forms, has_wide_form, takes_kind, takes}
+use Rattle.insn_table.specs.declared.insn.Operand.TheVariants.{Imm, Nothing, Vec}
+use Rattle.insn_table.specs.declared.classes.Class.{Class}
+use Rattle.insn_table.specs.declared.classes.Class.TheVariants.{Register, Writable, Readable, Immediate, Address, VectorRegister, VectorSource, Control, Absent}
+use Rattle.insn_table.specs.Classes.{Form, two, three, takes_kind, takes}
+use Rattle.insn_table.specs.VectorForms.{copied, exchanged, extracted, moved_quadword, joined, shuffled, only_low, only_wide, move_forms, forms_at, is_vector_width, vector_forms}
+use Rattle.insn_table.specs.Forms.{forms, general_forms}
+use Rattle.insn_table.specs.Widths.{is_wide}
 use Rattle.insn_table.proofs.Bools.{both_true}
 
-one_of_one : (b : Bool) → 0 + cond b 1 0 ≤ 1
-one_of_one true = omega arith
-one_of_one false = omega arith
+one_of_two : (a b : Bool) → (a ≡ true → b ≡ true → ⊥) → 0 + cond a 1 0 + cond b 1 0 ≤ 1
+one_of_two true true f = absurd (f refl refl)
+one_of_two true false f = omega arith
+one_of_two false true f = omega arith
+one_of_two false false f = omega arith
 
 one_of_three : (a b c : Bool) → (a ≡ true → b ≡ true → ⊥) → (a ≡ true → c ≡ true → ⊥) → (b ≡ true → c ≡ true → ⊥) → 0 + cond a 1 0 + cond b 1 0 + cond c 1 0 ≤ 1
 one_of_three true true c f g h = absurd (f refl refl)
@@ -25,51 +35,127 @@ one_of_three false true false f g h = omega arith
 one_of_three false false true f g h = omega arith
 one_of_three false false false f g h = omega arith
 
--- what is only read is no immediate, and no register is missing
-readable-no_number : (w v : ℕ) (a : Operand) → takes_kind (Readable w) a ≡ true → takes_kind (Immediate v) a ≡ true → ⊥
+-- no operand is of both classes
+AreApart : Class → Class → Type 0
+AreApart class other = (a : Operand) → takes_kind class a ≡ true → takes_kind other a ≡ true → ⊥
+
+readable-no_number : (w v : ℕ) → AreApart (Readable w) (Immediate v)
+unfolding AreApart
 readable-no_number w v (Imm n) h k = cc
 readable-no_number w v _ h k = cc
 
-register-not_absent : (w : ℕ) (a : Operand) → takes_kind Absent a ≡ true → takes_kind (Register w) a ≡ true → ⊥
-register-not_absent w Nothing h k = cc
-register-not_absent w _ h k = cc
+absent-no_register : (w : ℕ) → AreApart Absent (Register w)
+unfolding AreApart
+absent-no_register w Nothing h k = cc
+absent-no_register w _ h k = cc
 
-first-taken : (class : Class) (classes : Form) (a : Operand) (args : List Operand) → pointwise takes_kind (class ∷ classes) (a ∷ args) ≡ true → takes_kind class a ≡ true
-first-taken class classes a args h = (both_true _ _ h).0
+vector-no_address : (w : ℕ) → AreApart (VectorRegister w) Address
+unfolding AreApart
+vector-no_address w (Vec n v) h k = cc
+vector-no_address w _ h k = cc
 
-rest-taken : (class : Class) (classes : Form) (a : Operand) (args : List Operand) → pointwise takes_kind (class ∷ classes) (a ∷ args) ≡ true → pointwise takes_kind classes args ≡ true
-rest-taken class classes a args h = (both_true _ _ h).1
+readable-no_vector : (w v : ℕ) → AreApart (Readable w) (VectorRegister v)
+unfolding AreApart
+readable-no_vector w v (Vec n u) h k = cc
+readable-no_vector w v _ h k = cc
 
-first-apart : (w : ℕ) (others more : Form) (args : List Operand) → takes args (Readable w ∷ others) ≡ true → takes args (Immediate w ∷ more) ≡ true → ⊥
-first-apart w others more [] h k = cc
-first-apart w others more (a ∷ args) h k =
-    readable-no_number w w a (first-taken (Readable w) others a args (both_true _ _ h).0) (first-taken (Immediate w) more a args (both_true _ _ k).0)
+vector-no_readable : (w v : ℕ) → AreApart (VectorRegister v) (Readable w)
+unfolding AreApart
+vector-no_readable w v a h k = readable-no_vector w v a k h
 
-third-apart : (w : ℕ) (c d e f : Class) (args : List Operand) → pointwise takes_kind (c ∷ d ∷ Absent ∷ Absent ∷ []) args ≡ true → pointwise takes_kind (e ∷ f ∷ Register w ∷ Absent ∷ []) args ≡ true → ⊥
-third-apart w c d e f [] h k = cc
-third-apart w c d e f (x ∷ []) h k = let rest : false ≡ true = rest-taken c (d ∷ Absent ∷ Absent ∷ []) x [] h in cc
-third-apart w c d e f (x ∷ y ∷ []) h k = let rest : false ≡ true = rest-taken d (Absent ∷ Absent ∷ []) y [] (rest-taken c (d ∷ Absent ∷ Absent ∷ []) x (y ∷ []) h) in cc
-third-apart w c d e f (x ∷ y ∷ z ∷ args) h k =
-    register-not_absent w z (first-taken Absent (Absent ∷ []) z args (rest-taken d (Absent ∷ Absent ∷ []) y (z ∷ args) (rest-taken c (d ∷ Absent ∷ Absent ∷ []) x (y ∷ z ∷ args) h)))
-    (first-taken (Register w) (Absent ∷ []) z args (rest-taken f (Register w ∷ Absent ∷ []) y (z ∷ args) (rest-taken e (f ∷ Register w ∷ Absent ∷ []) x (y ∷ z ∷ args) k)))
+vector-not_writable : (w v : ℕ) → AreApart (VectorRegister v) (Writable w)
+unfolding AreApart
+vector-not_writable w v (Vec n u) h k = cc
+vector-not_writable w v _ h k = cc
 
-alone : (form : Form) (args : List Operand) → count_by (takes args) (form ∷ []) ≤ 1
-alone form args = one_of_one (takes args form)
+-- forms with such classes at one place don't both take the same operands
+classes-apart : (k : ℕ) (c d : Class) (form other : Form) (args : List Operand) → slice_get form k ≡ Some c → slice_get other k ≡ Some d → AreApart c d
+    → pointwise takes_kind form args ≡ true → pointwise takes_kind other args ≡ true → ⊥
+unfolding AreApart
+classes-apart k c d [] other args at there apart h g = cc
+classes-apart k c d (e ∷ form) [] args at there apart h g = cc
+classes-apart k c d (e ∷ form) (f ∷ other) [] at there apart h g = cc
+classes-apart zero c d (e ∷ form) (f ∷ other) (a ∷ args) at there apart h g =
+    apart a (subst (λ (x : Class). takes_kind x a ≡ true) (same_Some e c at) (both_true _ _ h).0)
+    (subst (λ (x : Class). takes_kind x a ≡ true) (same_Some f d there) (both_true _ _ g).0)
+classes-apart (suc k) c d (e ∷ form) (f ∷ other) (a ∷ args) at there apart h g =
+    classes-apart k c d form other args at there apart (both_true _ _ h).1 (both_true _ _ g).1
 
-product-apart : (w : ℕ) (args : List Operand) → count_by (takes args) (forms Imul w) ≤ 1
+-- the same, of forms that take operands
+apart-at : (k : ℕ) (c d : Class) (form other : Form) (args : List Operand) → slice_get form k ≡ Some c → slice_get other k ≡ Some d → AreApart c d
+    → takes args form ≡ true → takes args other ≡ true → ⊥
+apart-at k c d form other args at there apart h g = classes-apart k c d form other args at there apart (both_true _ _ h).0 (both_true _ _ g).0
+
+one_form : (form : Form) (args : List Operand) → count_by (takes args) (form ∷ []) ≤ 1
+one_form form args = omega (arith, count_by-le-length (takes args) (form ∷ []))
+
+where_so : (b : Bool) (list : List Form) (args : List Operand) → count_by (takes args) list ≤ 1 → count_by (takes args) (if b then list else []) ≤ 1
+where_so true list args h = h
+where_so false list args h = omega arith
+
+product-apart : (w : ℕ) (args : List Operand) → count_by (takes args) (general_forms Imul w) ≤ 1
 product-apart w args =
-    one_of_three (takes args (two (Readable w) (Register w))) (takes args (two (Immediate w) (Register w))) (takes args (three (Immediate w) (Readable w) (Register w)))
-    (first-apart w (Register w ∷ Absent ∷ Absent ∷ []) (Register w ∷ Absent ∷ Absent ∷ []) args)
-    (first-apart w (Register w ∷ Absent ∷ Absent ∷ []) (Readable w ∷ Register w ∷ Absent ∷ []) args)
-    (λ h k. third-apart w (Immediate w) (Register w) (Immediate w) (Readable w) args (both_true _ _ h).0 (both_true _ _ k).0)
+    let first : Form = two (Readable w) (Register w) in
+    let second : Form = two (Immediate w) (Register w) in
+    let third : Form = three (Immediate w) (Readable w) (Register w) in
+    one_of_three (takes args first) (takes args second) (takes args third)
+    (apart-at 0 (Readable w) (Immediate w) first second args refl refl (readable-no_number w w))
+    (apart-at 0 (Readable w) (Immediate w) first third args refl refl (readable-no_number w w))
+    (apart-at 2 Absent (Register w) second third args refl refl (absent-no_register w))
 
-move-apart : (b : Bool) (form : Form) (args : List Operand) → count_by (takes args) (if b then form ∷ [] else []) ≤ 1
-move-apart true form args = alone form args
-move-apart false form args = omega arith
+general-apart : (op : Op) (w : ℕ) (args : List Operand) → count_by (takes args) (general_forms op w) ≤ 1
+general-apart Imul w args = product-apart w args
+general-apart (Cmov c) w args = where_so (is_wide w) (two (Readable w) (Register w) ∷ []) args (one_form (two (Readable w) (Register w)) args)
+general-apart op w args = omega (arith, count_by-le-length (takes args) (general_forms op w))
 
-pub forms-apart : (op : Op) (w : ℕ) (args : List Operand) → count_by (takes args) (forms op w) ≤ 1
-forms-apart Imul w args = product-apart w args
-forms-apart (Cmov c) w args = move-apart (has_wide_form w) _ args
-forms-apart op w args = omega (arith, count_by-le-length (takes args) (forms op w))
+copied-apart : (w : ℕ) (args : List Operand) → count_by (takes args) (copied w) ≤ 1
+copied-apart w args =
+    let load : Form = two (VectorSource w) (VectorRegister w) in
+    let store : Form = two (VectorRegister w) Address in
+    one_of_two (takes args load) (takes args store)
+    (apart-at 1 (VectorRegister w) Address load store args refl refl (vector-no_address w))
 
-pub ruleset apart = (forms-apart)
+exchanged-apart : (v : ℕ) (args : List Operand) → count_by (takes args) (exchanged v) ≤ 1
+exchanged-apart v args =
+    let load : Form = two (Readable v) (VectorRegister 128) in
+    let store : Form = two (VectorRegister 128) (Writable v) in
+    one_of_two (takes args load) (takes args store)
+    (apart-at 0 (Readable v) (VectorRegister 128) load store args refl refl (readable-no_vector v 128))
+
+quadword-apart : (args : List Operand) → count_by (takes args) moved_quadword ≤ 1
+quadword-apart args =
+    let copy : Form = two (VectorRegister 128) (VectorRegister 128) in
+    let load : Form = two (Readable 64) (VectorRegister 128) in
+    let store : Form = two (VectorRegister 128) (Writable 64) in
+    one_of_three (takes args copy) (takes args load) (takes args store)
+    (apart-at 0 (VectorRegister 128) (Readable 64) copy load args refl refl (vector-no_readable 64 128))
+    (apart-at 1 (VectorRegister 128) (Writable 64) copy store args refl refl (vector-not_writable 64 128))
+    (apart-at 0 (Readable 64) (VectorRegister 128) load store args refl refl (readable-no_vector 64 128))
+
+extracted-apart : (args : List Operand) → count_by (takes args) extracted ≤ 1
+extracted-apart args =
+    let kept : Form = three Control (VectorRegister 256) (VectorRegister 128) in
+    let store : Form = three Control (VectorRegister 256) Address in
+    one_of_two (takes args kept) (takes args store)
+    (apart-at 2 (VectorRegister 128) Address kept store args refl refl (vector-no_address 128))
+
+moves-apart : (op : MoveOp) (vex : Bool) (w : ℕ) (args : List Operand) → count_by (takes args) (move_forms op vex w) ≤ 1
+moves-apart moves.Movd vex w args = where_so _ (exchanged 32) args (exchanged-apart 32 args)
+moves-apart moves.Movq vex w args = where_so _ moved_quadword args (quadword-apart args)
+moves-apart moves.Movdqa vex w args = copied-apart w args
+moves-apart moves.Movdqu vex w args = copied-apart w args
+moves-apart moves.Movaps vex w args = copied-apart w args
+moves-apart moves.Movups vex w args = copied-apart w args
+moves-apart moves.Extracti128 vex w args = where_so _ extracted args (extracted-apart args)
+moves-apart moves.Inserti128 vex w args = where_so _ (joined 128 ∷ []) args (one_form (joined 128) args)
+moves-apart moves.Perm2i128 vex w args = where_so _ (joined 256 ∷ []) args (one_form (joined 256) args)
+moves-apart moves.Permq vex w args = where_so _ (shuffled 256 ∷ []) args (one_form (shuffled 256) args)
+moves-apart op vex w args = omega (arith, count_by-le-length (takes args) (move_forms op vex w))
+
+vectors-apart : (op : VectorOp) (vex : Bool) (w : ℕ) (args : List Operand) → count_by (takes args) (forms_at op vex w) ≤ 1
+vectors-apart (Moving op) vex w args = moves-apart op vex w args
+vectors-apart op vex w args = omega (arith, count_by-le-length (takes args) (forms_at op vex w))
+
+pub forms-apart : (op : Op) (vex : Bool) (w : ℕ) (args : List Operand) → count_by (takes args) (forms op vex w) ≤ 1
+forms-apart (Vector op) vex w args = where_so (is_vector_width vex w) (forms_at op vex w) args (vectors-apart op vex w args)
+forms-apart op vex w args = general-apart op w args

@@ -9,7 +9,8 @@ use Rattle.insn_table.specs.declared.insn.Operand.TheVariants.{Reg, Mem, Vec, Ta
 use Rattle.insn_table.specs.declared.insn.Insn.{Insn}
 use Rattle.insn_table.specs.declared.shape.Shape.{Shape}
 use Rattle.insn_table.specs.declared.build_error.BuildError.TheVariants.{Empty, TargetOutside, FallsOff}
-use Rattle.insn_table.specs.Spellings.{general_rows, named}
+use Rattle.insn_table.specs.Rows.{named}
+use Rattle.insn_table.specs.Spellings.{table_rows}
 use Rattle.insn_table.specs.Forms.{fits_of}
 use Rattle.insn_table.specs.Closed.{IsClosed, IsInside, IsLeaving}
 use Rattle.insn_table.specs.Table.{HasRegisters, IsScale, IsTableInsn}
@@ -51,7 +52,7 @@ registers-known _ h = tt
 
 -- what fits makes, with registers that there are, is an instruction of the table
 pub made_of_table : (mnemonic : List ℕ) (shape : Shape) (args : List Operand) (line : ℕ) (i : Insn)
-    → named general_rows mnemonic ≡ Some shape → fits_of shape args line ≡ Ok i → list_all has_registers i.args ≡ true → IsTableInsn i
+    → named table_rows mnemonic ≡ Some shape → fits_of shape args line ≡ Ok i → list_all has_registers i.args ≡ true → IsTableInsn i
 made_of_table mnemonic shape args line i names fits known = fitted-insn mnemonic shape args line i names fits (all-pass has_registers HasRegisters registers-known i.args known)
 
 -- closed functions

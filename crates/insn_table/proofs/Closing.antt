@@ -7,8 +7,12 @@ use Rattle.align_base.specs.declared.op.Op.TheVariants.{Mov, Add, Sub, Ret}
 use Rattle.insn_table.specs.declared.insn.Operand.{Operand}
 use Rattle.insn_table.specs.declared.insn.Operand.TheVariants.{Reg, Imm, Nothing}
 use Rattle.insn_table.specs.declared.insn.Insn.{Insn}
-use Rattle.insn_table.specs.Spellings.{general, named, general_rows, add_to_cltq, cmova_to_cmovnc, cmovne_to_cmovz, cmp_to_lea, mov_to_sar, set_rows, shl_to_xor}
-use Rattle.insn_table.specs.Forms.{is_immediate, fits_of}
+use Rattle.insn_table.specs.Rows.{general, named}
+use Rattle.insn_table.specs.Spellings.{table_rows}
+use Rattle.insn_table.specs.LegacyRows.{add_to_cltq, cmova_to_cmovnc, cmovne_to_cmovz, cmp_to_lea, mov_to_or, packss_to_pop, por_to_sar, set_rows, shl_to_test, xor_rows}
+use Rattle.insn_table.specs.VexRows.{vand_to_vpbroadcast, vpcmp_to_vpmul, vpor_to_vzeroupper}
+use Rattle.insn_table.specs.Classes.{is_immediate}
+use Rattle.insn_table.specs.Forms.{fits_of}
 use Rattle.insn_table.specs.Plain.{IsRegister, IsSignedWord, IsSource, IsReturn, IsMoveOp, IsPlainMove, IsPlain}
 use Rattle.insn_table.specs.Closed.{IsInside, IsLeaving, IsClosed}
 use Rattle.insn_table.specs.Table.{HasRegisters, IsTableInsn}
@@ -29,15 +33,15 @@ mnemonic_of Sub = codes "subq"
 mnemonic_of Ret = codes "ret"
 mnemonic_of _ = []
 
-move-named : (op : Op) → IsMoveOp op → named general_rows (mnemonic_of op) ≡ Some (general op 64)
-unfolding general_rows add_to_cltq cmova_to_cmovnc cmovne_to_cmovz cmp_to_lea mov_to_sar set_rows shl_to_xor mnemonic_of
+move-named : (op : Op) → IsMoveOp op → named table_rows (mnemonic_of op) ≡ Some (general op 64)
+unfolding table_rows add_to_cltq cmova_to_cmovnc cmovne_to_cmovz cmp_to_lea mov_to_or packss_to_pop por_to_sar set_rows shl_to_test xor_rows vand_to_vpbroadcast vpcmp_to_vpmul vpor_to_vzeroupper mnemonic_of
 move-named Mov moves = refl
 move-named Add moves = refl
 move-named Sub moves = refl
 move-named _ moves = absurd moves
 
-return_named : named general_rows (mnemonic_of Ret) ≡ Some (general Ret 64)
-unfolding general_rows add_to_cltq cmova_to_cmovnc cmovne_to_cmovz cmp_to_lea mov_to_sar set_rows shl_to_xor mnemonic_of
+return_named : named table_rows (mnemonic_of Ret) ≡ Some (general Ret 64)
+unfolding table_rows add_to_cltq cmova_to_cmovnc cmovne_to_cmovz cmp_to_lea mov_to_or packss_to_pop por_to_sar set_rows shl_to_test xor_rows vand_to_vpbroadcast vpcmp_to_vpmul vpor_to_vzeroupper mnemonic_of
 return_named = refl
 
 -- operands
@@ -96,6 +100,7 @@ move-kept op source m line n moves reads low =
     record {
       table = record {
         mnemonic = mnemonic_of op;
+        shape = general op 64;
         row = named-row (mnemonic_of op) (general op 64) (move-named op moves);
         accepted = fit.accepted;
         registers = (fit.registers, (low, (tt, (tt, tt))));
@@ -125,7 +130,7 @@ return-kept n i r =
     let known : insn Ret none i.line ≡ i = ap (λ (op : Op). insn op none i.line) (sym r.op) ∙ insn-known i none r.width r.legacy r.args in
     subst (IsKept n) known
     (record {
-      table = record { mnemonic = mnemonic_of Ret; row = named-row (mnemonic_of Ret) (general Ret 64) return_named; accepted = refl; registers = (tt, (tt, (tt, (tt, tt)))) };
+      table = record { mnemonic = mnemonic_of Ret; shape = general Ret 64; row = named-row (mnemonic_of Ret) (general Ret 64) return_named; accepted = refl; registers = (tt, (tt, (tt, (tt, tt)))) };
       inside = (tt, (tt, (tt, (tt, tt))));
     })
 

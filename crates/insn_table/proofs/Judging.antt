@@ -8,7 +8,9 @@ use Rattle.insn_table.specs.declared.insn.Insn.{Insn}
 use Rattle.insn_table.specs.declared.shape.Shape.{Shape}
 use Rattle.insn_table.specs.declared.fitting.Misfit.{Misfit}
 use Rattle.insn_table.specs.declared.fitting.Misfit.TheVariants.{BadOperand, BadNumber}
-use Rattle.insn_table.specs.Forms.{Form, forms, takes, insn_of, form_of, judged_by, fits_of, HasForm}
+use Rattle.insn_table.specs.Widths.{is_shape}
+use Rattle.insn_table.specs.Classes.{Form, takes}
+use Rattle.insn_table.specs.Forms.{forms, insn_of, found_form, judged_by, fits_of, HasForm}
 
 -- none is found where none passes, and one is found where one passes
 find-none : {X : Type 0} (p : X → Bool) (xs : List X) → find p xs ≡ None → list_any p xs ≡ false
@@ -23,18 +25,33 @@ found-no_bad_operand : (b : Bool) (i : Insn) → (if b then Ok i else Err BadNum
 found-no_bad_operand true i h = cc
 found-no_bad_operand false i h = cc
 
-none-any : (i : Insn) → form_of i ≡ None → HasForm i → ⊥
-none-any i h any = let none : list_any (takes i.args) (forms i.op i.w) ≡ false = find-none (takes i.args) (forms i.op i.w) h in false≢true (sym none ∙ any)
+-- no form was found where the shape has no mnemonic, or no form takes the operands
+not_named : (b : Bool) (found : Option Form) → (if b then found else None) ≡ None → b ≡ true → found ≡ None
+not_named true found h b = h
+not_named false found h b = cc
 
-bad_operand-found : (i : Insn) (found : Option Form) → found ≡ form_of i → (judged_by found i ≡ Err BadOperand) ↔ (HasForm i → ⊥)
-bad_operand-found i None e =
-    ((λ h any. none-any i (sym e) any), (λ n. refl))
-bad_operand-found i (Some form) e =
-    ((λ h. absurd (found-no_bad_operand _ i h)), (λ n. absurd (n (find-some (takes i.args) (forms i.op i.w) form (sym e)))))
+none-any : (shape : Shape) (i : Insn) → found_form shape i ≡ None → HasForm shape i → ⊥
+none-any shape i h has =
+    let none : list_any (takes i.args) (forms i.op i.vex i.w) ≡ false =
+    find-none (takes i.args) (forms i.op i.vex i.w) (not_named (is_shape shape) _ h has.named) in
+    false≢true (sym none ∙ has.taken)
 
--- fits answers BadOperand exactly where no form takes the kinds of operands
+some-named : (b : Bool) (found : Option Form) (form : Form) → (if b then found else None) ≡ Some form → (b ≡ true) × (found ≡ Some form)
+some-named true found form h = (refl, h)
+some-named false found form h = cc
+
+some-has : (shape : Shape) (i : Insn) (form : Form) → found_form shape i ≡ Some form → HasForm shape i
+some-has shape i form h =
+    let found = some-named (is_shape shape) (find (takes i.args) (forms i.op i.vex i.w)) form h in
+    record { named = found.0; taken = find-some (takes i.args) (forms i.op i.vex i.w) form found.1 }
+
+bad_operand-found : (shape : Shape) (i : Insn) (found : Option Form) → found ≡ found_form shape i → (judged_by found i ≡ Err BadOperand) ↔ (HasForm shape i → ⊥)
+bad_operand-found shape i None e = ((λ h has. none-any shape i (sym e) has), (λ n. refl))
+bad_operand-found shape i (Some form) e = ((λ h. absurd (found-no_bad_operand _ i h)), (λ n. absurd (n (some-has shape i form (sym e)))))
+
+-- fits answers BadOperand exactly where no mnemonic names the shape or no form takes the kinds of operands
 pub bad_operand_clause : (shape : Shape) (args : List Operand) (line : ℕ) (r : Result Insn Misfit) → r ≡ fits_of shape args line
-    → (r ≡ Err BadOperand) ↔ (HasForm (insn_of shape args line) → ⊥)
+    → (r ≡ Err BadOperand) ↔ (HasForm shape (insn_of shape args line) → ⊥)
 bad_operand_clause shape args line r e =
     let i : Insn = insn_of shape args line in
-    subst (λ (x : Result Insn Misfit). (x ≡ Err BadOperand) ↔ (HasForm (insn_of shape args line) → ⊥)) (sym e) (bad_operand-found i (form_of i) refl)
+    subst (λ (x : Result Insn Misfit). (x ≡ Err BadOperand) ↔ (HasForm shape (insn_of shape args line) → ⊥)) (sym e) (bad_operand-found shape i (found_form shape i) refl)

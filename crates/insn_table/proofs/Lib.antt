@@ -1,4 +1,5 @@
 pub mod Rows
+pub mod Shapes
 pub mod Judging
 pub mod TableInsns
 pub mod Apart

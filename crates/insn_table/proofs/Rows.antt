@@ -1,6 +1,7 @@
 -- Looking a mnemonic up in rows that stand group after group, and that no mnemonic stands twice.
 use Rattle.std.proofs.Common.{◌≡◌, ℕ, zero, suc, true, false, List, [], ◌∷◌, ◌++◌, Bool, if◌then◌else◌, Some, None, refl, sym, ap, ◌∙◌, subst, arith}
 use Rattle.std.specs.Prelude.{slice_get}
+use Rattle.std.specs.List.{list_all}
 use Rattle.std.specs.declared.cmp.Ordering.{Ordering}
 use Rattle.std.specs.declared.cmp.Ordering.TheVariants.{Less, Equal, Greater}
 use Rattle.std.proofs.lemmas.Option.{same_Some, slice_get_within}
@@ -14,7 +15,10 @@ use Rattle.std.proofs.lemmas.Slice.Eq.{bytes_eq-Decides}
 use Rattle.std.specs.Bool.{Decides}
 use Rattle.insn_table.specs.declared.shape.Shape.{Shape}
 use Rattle.insn_table.proofs.Bools.{both_true}
-use Rattle.insn_table.specs.Spellings.{Row, named, in_order_after, in_order, general_rows, add_to_cltq, cmova_to_cmovnc, cmovne_to_cmovz, cmp_to_lea, mov_to_sar, set_rows, shl_to_xor, IsRowOf}
+use Rattle.insn_table.specs.Rows.{Row, named, in_order_after, in_order, IsRowOf}
+use Rattle.insn_table.specs.Spellings.{table_rows}
+use Rattle.insn_table.specs.LegacyRows.{add_to_cltq, cmova_to_cmovnc, cmovne_to_cmovz, cmp_to_lea, mov_to_or, packss_to_pop, por_to_sar, set_rows, shl_to_test, xor_rows}
+use Rattle.insn_table.specs.VexRows.{vand_to_vpbroadcast, vpcmp_to_vpmul, vpor_to_vzeroupper}
 
 -- a mnemonic that the first rows name is named so by all
 pub named-first : (rows more : List Row) (mnemonic : List ℕ) (shape : Shape) → named rows mnemonic ≡ Some shape → named (rows ++ more) mnemonic ≡ Some shape
@@ -92,18 +96,24 @@ named-index : (rows : List Row) (mnemonic : List ℕ) (shape : Shape) → named 
 named-index [] mnemonic shape h = cc
 named-index (row ∷ rows) mnemonic shape h = named-here row rows mnemonic shape (bytes_eq row.0 mnemonic) (bytes_eq-Decides row.0 mnemonic) (named-index rows mnemonic shape) h
 
-pub rows_in_order : in_order general_rows ≡ true
-unfolding general_rows add_to_cltq cmova_to_cmovnc cmovne_to_cmovz cmp_to_lea mov_to_sar set_rows shl_to_xor
+pub rows_in_order : in_order table_rows ≡ true
+unfolding table_rows add_to_cltq cmova_to_cmovnc cmovne_to_cmovz cmp_to_lea mov_to_or packss_to_pop por_to_sar set_rows shl_to_test xor_rows vand_to_vpbroadcast vpcmp_to_vpmul vpor_to_vzeroupper
 rows_in_order = refl
 
-pub rows-once : (i j : ℕ) (row other : Row) → slice_get general_rows i ≡ Some row → slice_get general_rows j ≡ Some other → row.0 ≡ other.0 → i ≡ j
-rows-once i j row other h k e = same-index general_rows i j row other rows_in_order h k e
+-- a test that all pass is passed by each
+pub passed_at : {X : Type 0} (p : X → Bool) (xs : List X) (k : ℕ) (x : X) → list_all p xs ≡ true → slice_get xs k ≡ Some x → p x ≡ true
+passed_at p [] k x all there = absurd (omega (arith, slice_get_within [] k x there))
+passed_at p (y ∷ ys) zero x all there = subst (λ z. p z ≡ true) (same_Some y x there) (both_true _ _ all).0
+passed_at p (y ∷ ys) (suc k) x all there = passed_at p ys k x (both_true _ _ all).1 there
 
-pub rows-named : (k : ℕ) (row : Row) → slice_get general_rows k ≡ Some row → named general_rows row.0 ≡ Some row.1
-rows-named k row h = row-named general_rows k row rows_in_order h
+pub rows-once : (i j : ℕ) (row other : Row) → slice_get table_rows i ≡ Some row → slice_get table_rows j ≡ Some other → row.0 ≡ other.0 → i ≡ j
+rows-once i j row other h k e = same-index table_rows i j row other rows_in_order h k e
 
-pub named-row : (mnemonic : List ℕ) (shape : Shape) → named general_rows mnemonic ≡ Some shape → IsRowOf general_rows mnemonic shape
-named-row mnemonic shape h = named-index general_rows mnemonic shape h
+pub rows-named : (k : ℕ) (row : Row) → slice_get table_rows k ≡ Some row → named table_rows row.0 ≡ Some row.1
+rows-named k row h = row-named table_rows k row rows_in_order h
+
+pub named-row : (mnemonic : List ℕ) (shape : Shape) → named table_rows mnemonic ≡ Some shape → IsRowOf table_rows mnemonic shape
+named-row mnemonic shape h = named-index table_rows mnemonic shape h
 
 pub ruleset once = (rows_in_order, rows-once)
 

@@ -12,7 +12,8 @@ use Rattle.insn_table.specs.declared.fitting.Misfit.TheVariants.{BadOperand}
 use Rattle.insn_table.specs.declared.assembling.Statement.{Statement}
 use Rattle.insn_table.specs.declared.build_error.BuildError.{BuildError}
 use Rattle.insn_table.specs.declared.build_error.BuildError.TheVariants.{UnknownMnemonic, Unfit, BadRegister, TooMany, Empty, TargetOutside, FallsOff}
-use Rattle.insn_table.specs.Spellings.{general_rows, named}
+use Rattle.insn_table.specs.Rows.{named}
+use Rattle.insn_table.specs.Spellings.{table_rows}
 use Rattle.insn_table.specs.Forms.{fits_of}
 use Rattle.insn_table.specs.Table.{IsTableInsn}
 
@@ -54,7 +55,7 @@ insn_made (Some shape) (Some args) line = with_registers (fits_of shape args lin
 
 -- the instruction that a mnemonic and its operands make on this line, or why they make none
 abbrev pub assembled : List ℕ → List Operand → ℕ → Result Insn BuildError
-assembled mnemonic args line = insn_made (named general_rows mnemonic) (four_of args) line
+assembled mnemonic args line = insn_made (named table_rows mnemonic) (four_of args) line
 
 -- the instruction that is made behind these, on this line, or why none is
 abbrev pub insn_behind : List Insn → List ℕ → List Operand → ℕ → Result Insn BuildError

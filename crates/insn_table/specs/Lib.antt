@@ -1,6 +1,12 @@
 pub mod Closed
 pub mod Plain
+pub mod Rows
+pub mod LegacyRows
+pub mod VexRows
 pub mod Spellings
+pub mod Widths
+pub mod Classes
+pub mod VectorForms
 pub mod Forms
 pub mod Table
 pub mod Building

@@ -5,12 +5,9 @@ use Rattle.insn_table.specs.declared.insn.Operand.{Operand}
 use Rattle.insn_table.specs.declared.insn.Operand.TheVariants.{Reg, Imm, Mem, Vec, Pool, Target, Nothing}
 use Rattle.insn_table.specs.declared.insn.Insn.{Insn}
 use Rattle.insn_table.specs.declared.shape.Shape.{Shape}
-use Rattle.insn_table.specs.Spellings.{general_rows, IsRowOf}
+use Rattle.insn_table.specs.Rows.{IsRowOf}
+use Rattle.insn_table.specs.Spellings.{table_rows}
 use Rattle.insn_table.specs.Forms.{fits_of}
-
--- the shape of an instruction, which says its width
-abbrev pub shape_of : Insn → Shape
-shape_of i = record { op = i.op; w = i.w; vex = i.vex }
 
 -- 1, 2, 4 or 8
 abbrev pub IsScale : ℕ → Type 0
@@ -27,9 +24,10 @@ HasRegisters (Pool at) = Unit {0}
 HasRegisters (Target place) = Unit {0}
 HasRegisters Nothing = Unit {0}
 
--- a mnemonic of the table names the instruction's shape, and fits takes its operands as they are
+-- a mnemonic of the table names a shape, and fits makes the instruction of that shape and of its operands as they are
 pub record IsTableInsn (i : Insn) : Type 0 where
   pub mnemonic : List ℕ
-  pub row : IsRowOf general_rows mnemonic (shape_of i)
-  pub accepted : fits_of (shape_of i) i.args i.line ≡ Ok i
+  pub shape : Shape
+  pub row : IsRowOf table_rows mnemonic shape
+  pub accepted : fits_of shape i.args i.line ≡ Ok i
   pub registers : AllByRecursion HasRegisters i.args

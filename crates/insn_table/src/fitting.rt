@@ -1,19 +1,22 @@
 //! Which instruction a shape and its operands make.
-ghost use Rattle.std.specs.Prelude.{◌≡◌, ◌↔◌, ◌-◌, ℕ, List, false, map, length, Option, Some, None, Ok, Err, IfOk, slice_get};
-ghost use Rattle.std.specs.List.{find, count_by};
+ghost use Rattle.std.specs.Prelude.{◌≡◌, ◌↔◌, ℕ, List, false, length, Option, Some, None, Ok, Err, IfOk, max, slice_get};
+ghost use Rattle.std.specs.List.{find, count_by, list_any};
 ghost use Rattle.std.specs.Cmp.Lexicographic.{pointwise};
-ghost use Rattle.insn_table.specs.Forms.{takes, takes_kind, is_within, number_fits, numbers_fit, is_memory, is_immediate, greatest_immediate, immediate_depth, is_shift, is_lone, counted_once, completed, width_of, insn_of, fits_of, HasForm, HasBadNumber};
+ghost use Rattle.insn_table.specs.Classes.{takes, takes_kind, number_fits, numbers_fit, is_memory};
+ghost use Rattle.insn_table.specs.Forms.{is_shift, is_lone, counted_once, completed, register_width, vector_register_width, widest, told_width, width_of, is_quadword_move, is_vector, chosen, insn_with, insn_of, fits_of, found_form, HasForm, HasBadNumber};
 
-use crate::forms::{Class, forms_of, is_memory, takes_kind};
+use crate::classes::{Class, is_memory, number_fits, takes_kind};
+use crate::forms::forms_of;
 use crate::insn::{Insn, Operand};
 use crate::shape::Shape;
-use align_base::Op;
+use crate::widths::is_shape;
+use align_base::{MoveOp, Op, VectorOp};
 use thiserror::Error;
 
 /// Why operands make no instruction of a shape.
 #[derive(Clone, Copy, Debug, PartialEq, Eq, Error)]
 pub enum Misfit {
-    /// No form takes these kinds of operands.
+    /// No mnemonic names the shape, or no form takes these kinds of operands.
     #[error("the instruction takes no such operands")]
     BadOperand,
     /// A form takes these kinds of operands, and an immediate or a count is out of range.
@@ -22,7 +25,8 @@ pub enum Misfit {
 }
 
 /// The instruction that this shape makes with these operands, or why it makes none. A width that was
-/// left out, and the count of a shift that has none, are written out in it. `line` is kept as it is.
+/// left out, and the count of a shift that has none, are written out in it; `movq` with a vector
+/// register is the move of vectors. `line` is kept as it is.
 ///
 /// Which operands an instruction takes, and the ranges of immediates, are in the instruction's section
 /// of Intel's SDM, volume 2; that no two operands are in memory is in section 2.1.3, "ModR/M and SIB
@@ -31,29 +35,71 @@ pub fn fits(shape: Shape, args: [Operand; 4], line: u32) -> Result<Insn, Misfit>
     ensures is { result ≡ fits_of shape args line }
     ensures ok { IfOk result (λ i. i ≡ insn_of shape args line) }
 
-    // No form takes these kinds of operands; and one does, but not these numbers.
-    ensures bad_operand { (result ≡ Err Misfit.BadOperand) ↔ (HasForm (insn_of shape args line) → ⊥) }
-    ensures bad_number { (result ≡ Err Misfit.BadNumber) ↔ HasBadNumber (insn_of shape args line) }
+    // No mnemonic names the shape, or no form takes these kinds of operands; and one does, but not these numbers.
+    ensures bad_operand { (result ≡ Err Misfit.BadOperand) ↔ (HasForm shape (insn_of shape args line) → ⊥) }
+    ensures bad_number { (result ≡ Err Misfit.BadNumber) ↔ HasBadNumber shape (insn_of shape args line) }
 {
-    let w = width(shape, &args);
-    let args = completed(shape.op, args);
-    let forms = forms_of(shape.op, w);
-    match first_form(forms.as_slice(), &args) {
+    let insn = insn_of(shape, args, line);
+    match found_form(shape, &insn) {
         None => Err(Misfit::BadOperand),
         Some(form) => {
-            if numbers_fit(&form, &args) {
-                Ok(Insn {
-                    op: shape.op,
-                    w,
-                    vex: shape.vex,
-                    args,
-                    line,
-                })
+            if numbers_fit(&form, &insn.args) {
+                Ok(insn)
             } else {
                 Err(Misfit::BadNumber)
             }
         }
     }
+}
+
+/// The instruction of this shape with these operands, whether there is one or not.
+fn insn_of(shape: Shape, args: [Operand; 4], line: u32) -> Insn
+    ensures { result ≡ insn_of shape args line }
+{
+    let row = chosen(shape, &args);
+    Insn {
+        op: row.op,
+        w: width(row, &args),
+        vex: row.vex,
+        args: completed(row.op, args),
+        line,
+    }
+}
+
+/// The shape of the row that the operands choose.
+fn chosen(shape: Shape, args: &[Operand; 4]) -> Shape
+    ensures { result ≡ chosen shape args.now }
+{
+    if is_quadword_move(shape.op, shape.w, shape.vex) && has_vector(args) {
+        Shape {
+            op: Op::Vector(VectorOp::Moving(MoveOp::Movq)),
+            w: 128,
+            vex: false,
+        }
+    } else {
+        shape
+    }
+}
+
+fn is_quadword_move(op: Op, w: u32, vex: bool) -> bool
+    ensures { result ≡ is_quadword_move op w vex }
+{
+    match op {
+        Op::Mov => !vex && w == 64,
+        _ => false,
+    }
+}
+
+fn has_vector(args: &[Operand]) -> bool
+    ensures { result ≡ list_any is_vector args.now }
+{
+    args.iter().any(|arg| is_vector(*arg))
+}
+
+fn is_vector(operand: Operand) -> bool
+    ensures { result ≡ is_vector operand }
+{
+    matches!(operand, Operand::Vec { .. })
 }
 
 /// The width of the form.
@@ -63,9 +109,43 @@ fn width(shape: Shape, args: &[Operand; 4]) -> u32
     if shape.w != 0 {
         return shape.w;
     }
+    if shape.vex {
+        return widest(args);
+    }
     match args[1] {
         Operand::Reg { w, .. } => w,
         _ => 0,
+    }
+}
+
+/// The width of the widest vector register among the operands, 0 where there is none.
+fn widest(args: &[Operand]) -> u32
+    ensures { result ≡ widest args.now }
+{
+    match args {
+        [] => 0,
+        [arg, rest @ ..] => vector_register_width(*arg).max(widest(rest)),
+    }
+}
+
+fn vector_register_width(operand: Operand) -> u32
+    ensures { result ≡ vector_register_width operand }
+{
+    match operand {
+        Operand::Vec { w, .. } => w,
+        _ => 0,
+    }
+}
+
+/// The first form that takes the instruction's kinds of operands, where a mnemonic names the shape.
+fn found_form(shape: Shape, insn: &Insn) -> Option<[Class; 4]>
+    ensures { result ≡ found_form shape insn.now }
+{
+    if is_shape(shape) {
+        let forms = forms_of(insn.op, insn.vex, insn.w);
+        first_form(forms.as_slice(), &insn.args)
+    } else {
+        None
     }
 }
 
@@ -162,55 +242,5 @@ fn numbers_fit(form: &[Class], args: &[Operand]) -> bool
             number_fits(*class, *arg) && numbers_fit(classes, rest)
         }
         _ => false,
-    }
-}
-
-fn number_fits(class: Class, operand: Operand) -> bool
-    ensures { result ≡ number_fits class operand }
-{
-    match operand {
-        Operand::Imm(v) => is_within(class, v),
-        _ => true,
-    }
-}
-
-/// Whether a number is in the range of this class.
-fn is_within(class: Class, v: u64) -> bool
-    ensures { result ≡ is_within class v }
-{
-    match class {
-        Class::Source(w) | Class::Immediate(w) => is_immediate(w, v),
-        Class::Count(w) => 0 < v && v < w as u64,
-        _ => true,
-    }
-}
-
-/// Whether a number, from -2^63 to 2^63 - 1 and written modulo 2^64, is an immediate of a form of `w`
-/// bits.
-fn is_immediate(w: u32, v: u64) -> bool
-    ensures { result ≡ is_immediate w v }
-{
-    v <= greatest_immediate(w) || v >= 0u64.wrapping_sub(immediate_depth(w))
-}
-
-fn greatest_immediate(w: u32) -> u64
-    ensures { result ≡ greatest_immediate w }
-{
-    match w {
-        8 => 0xff,
-        16 => 0xffff,
-        32 => 0xffff_ffff,
-        _ => 0x7fff_ffff,
-    }
-}
-
-/// How far below 0 the least immediate of a form of `w` bits lies.
-fn immediate_depth(w: u32) -> u64
-    ensures { result ≡ immediate_depth w }
-{
-    match w {
-        8 => 0x80,
-        16 => 0x8000,
-        _ => 0x8000_0000,
     }
 }

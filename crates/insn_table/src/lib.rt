@@ -22,13 +22,20 @@
 mod assembling;
 mod build_error;
 mod builder;
+mod classes;
+mod finding;
 mod fitting;
+mod form;
 mod forms;
 mod insn;
 mod items;
+mod legacy_rows;
 mod shape;
 mod spellings;
 mod table;
+mod vector_forms;
+mod vex_rows;
+mod widths;
 
 pub use align_base::{Cond, Flags, Op};
 pub use assembling::{Statement, assemble};
@@ -38,7 +45,7 @@ pub use fitting::{Misfit, fits};
 pub use insn::{Function, Insn, Insns, Operand};
 pub use items::{Bytes, Items};
 pub use shape::Shape;
-pub use spellings::{look_up, mnemonics_stand_once, rows_are_named};
+pub use spellings::{look_up, mnemonics_stand_once, rows_are_named, rows_have_shapes};
 pub use table::{
     fitted_insns_are_of_the_table, forms_are_apart, plain_functions_are_closed,
     table_insns_have_mnemonics,

@@ -1,16 +1,22 @@
 //! The mnemonics of the instruction table and what they name: one row each, in byte order, as in
 //! `specs/Spellings`.
-ghost use Rattle.std.specs.Prelude.{◌≡◌, ℕ, List, true, Some, map, slice_get};
-ghost use Rattle.insn_table.specs.Spellings.{Row, general, named, general_rows, in_order, IsRowOf, add_to_cltq, cmova_to_cmovnc, cmovne_to_cmovz, cmp_to_lea, mov_to_sar, set_rows, shl_to_xor};
+ghost use Rattle.std.specs.Prelude.{◌≡◌, ℕ, List, true, Some, slice_get};
+ghost use Rattle.insn_table.specs.Rows.{Row, named, in_order, IsRowOf};
+ghost use Rattle.insn_table.specs.Spellings.{last_rows, table_rows};
+ghost use Rattle.insn_table.specs.Widths.{is_shape};
 ghost use Rattle.insn_table.specs.declared.shape.Shape.{Shape};
 
+use crate::legacy_rows::{
+    add_to_cltq, cmova_to_cmovnc, cmovne_to_cmovz, cmp_to_lea, mov_to_or, packss_to_pop,
+    por_to_sar, set_rows, shl_to_test, xor_rows,
+};
 use crate::shape::Shape;
-use align_base::{Cond, Op};
+use crate::vex_rows::{vand_to_vpbroadcast, vpcmp_to_vpmul, vpor_to_vzeroupper};
 
 /// The shape that this mnemonic names: None where it names no instruction.
-#[tactic(auto, using(crate::proofs::Rows::found), unfolding(crate::specs::Spellings::general_rows))]
+#[tactic(auto, using(crate::proofs::Rows::found), unfolding(crate::specs::Spellings::table_rows))]
 pub fn look_up(mnemonic: &[u8]) -> Option<Shape>
-    ensures { result ≡ named general_rows mnemonic.now }
+    ensures { result ≡ named table_rows mnemonic.now }
 {
     if let Some(shape) = add_to_cltq(mnemonic) {
         return Some(shape);
@@ -24,399 +30,61 @@ pub fn look_up(mnemonic: &[u8]) -> Option<Shape>
     if let Some(shape) = cmp_to_lea(mnemonic) {
         return Some(shape);
     }
-    if let Some(shape) = mov_to_sar(mnemonic) {
+    if let Some(shape) = mov_to_or(mnemonic) {
+        return Some(shape);
+    }
+    if let Some(shape) = packss_to_pop(mnemonic) {
+        return Some(shape);
+    }
+    if let Some(shape) = por_to_sar(mnemonic) {
         return Some(shape);
     }
     if let Some(shape) = set_rows(mnemonic) {
         return Some(shape);
     }
-    shl_to_xor(mnemonic)
+    if let Some(shape) = shl_to_test(mnemonic) {
+        return Some(shape);
+    }
+    look_up_last(mnemonic)
+}
+
+/// The same of the rows with VEX and of those of `xor`.
+#[tactic(auto, using(crate::proofs::Rows::found))]
+fn look_up_last(mnemonic: &[u8]) -> Option<Shape>
+    ensures { result ≡ named last_rows mnemonic.now }
+{
+    if let Some(shape) = vand_to_vpbroadcast(mnemonic) {
+        return Some(shape);
+    }
+    if let Some(shape) = vpcmp_to_vpmul(mnemonic) {
+        return Some(shape);
+    }
+    if let Some(shape) = vpor_to_vzeroupper(mnemonic) {
+        return Some(shape);
+    }
+    xor_rows(mnemonic)
 }
 
 /// A law: the mnemonics of the rows rise strictly in byte order, so no mnemonic stands twice.
 #[tactic(auto, using(crate::proofs::Rows::once))]
 pub fn mnemonics_stand_once()
-    ensures in_order { in_order general_rows ≡ true }
-    ensures once { (i j : ℕ) (row other : Row) → slice_get general_rows i ≡ Some row
-        → slice_get general_rows j ≡ Some other → row.0 ≡ other.0 → i ≡ j }
+    ensures in_order { in_order table_rows ≡ true }
+    ensures once { (i j : ℕ) (row other : Row) → slice_get table_rows i ≡ Some row
+        → slice_get table_rows j ≡ Some other → row.0 ≡ other.0 → i ≡ j }
 {}
 
 /// A law: the mnemonic of each row names the row's shape, and only those mnemonics name anything.
 #[tactic(auto, using(crate::proofs::Rows::naming))]
 pub fn rows_are_named()
-    ensures named { (k : ℕ) (row : Row) → slice_get general_rows k ≡ Some row
-        → named general_rows row.0 ≡ Some row.1 }
-    ensures row { (mnemonic : List ℕ) (shape : Shape) → named general_rows mnemonic ≡ Some shape
-        → IsRowOf general_rows mnemonic shape }
+    ensures named { (k : ℕ) (row : Row) → slice_get table_rows k ≡ Some row
+        → named table_rows row.0 ≡ Some row.1 }
+    ensures row { (mnemonic : List ℕ) (shape : Shape) → named table_rows mnemonic ≡ Some shape
+        → IsRowOf table_rows mnemonic shape }
 {}
 
-/// The shape of the first of these rows with this mnemonic.
-fn find(rows: &[(&str, Op, u32)], mnemonic: &[u8]) -> Option<Shape>
-    ensures { result ≡ named (map (λ row. (row.0.now, general row.1 row.2)) rows.now) mnemonic.now }
-{
-    let mut rest = rows;
-    while let [row, after @ ..] = rest {
-        if row.0.as_bytes() == mnemonic {
-            return Some(Shape {
-                op: row.1,
-                w: row.2,
-                vex: false,
-            });
-        }
-        rest = after;
-    }
-    None
-}
-
-/// The rows from `add` to `cltq`.
-#[tactic(auto, unfolding(crate::specs::Spellings::add_to_cltq))]
-fn add_to_cltq(mnemonic: &[u8]) -> Option<Shape>
-    ensures { result ≡ named add_to_cltq mnemonic.now }
-{
-    find(
-        &[
-            ("addb", Op::Add, 8),
-            ("addl", Op::Add, 32),
-            ("addq", Op::Add, 64),
-            ("addw", Op::Add, 16),
-            ("andb", Op::And, 8),
-            ("andl", Op::And, 32),
-            ("andq", Op::And, 64),
-            ("andw", Op::And, 16),
-            ("cltq", Op::Cltq, 64),
-        ],
-        mnemonic,
-    )
-}
-
-/// The rows of `cmovCC`, from `a` to `nc`.
-#[tactic(auto, unfolding(crate::specs::Spellings::cmova_to_cmovnc))]
-fn cmova_to_cmovnc(mnemonic: &[u8]) -> Option<Shape>
-    ensures { result ≡ named cmova_to_cmovnc mnemonic.now }
-{
-    find(
-        &[
-            ("cmova", Op::Cmov(Cond::A), 0),
-            ("cmovae", Op::Cmov(Cond::Ae), 0),
-            ("cmovael", Op::Cmov(Cond::Ae), 32),
-            ("cmovaeq", Op::Cmov(Cond::Ae), 64),
-            ("cmovaew", Op::Cmov(Cond::Ae), 16),
-            ("cmoval", Op::Cmov(Cond::A), 32),
-            ("cmovaq", Op::Cmov(Cond::A), 64),
-            ("cmovaw", Op::Cmov(Cond::A), 16),
-            ("cmovb", Op::Cmov(Cond::B), 0),
-            ("cmovbe", Op::Cmov(Cond::Be), 0),
-            ("cmovbel", Op::Cmov(Cond::Be), 32),
-            ("cmovbeq", Op::Cmov(Cond::Be), 64),
-            ("cmovbew", Op::Cmov(Cond::Be), 16),
-            ("cmovbl", Op::Cmov(Cond::B), 32),
-            ("cmovbq", Op::Cmov(Cond::B), 64),
-            ("cmovbw", Op::Cmov(Cond::B), 16),
-            ("cmovc", Op::Cmov(Cond::B), 0),
-            ("cmovcl", Op::Cmov(Cond::B), 32),
-            ("cmovcq", Op::Cmov(Cond::B), 64),
-            ("cmovcw", Op::Cmov(Cond::B), 16),
-            ("cmove", Op::Cmov(Cond::E), 0),
-            ("cmovel", Op::Cmov(Cond::E), 32),
-            ("cmoveq", Op::Cmov(Cond::E), 64),
-            ("cmovew", Op::Cmov(Cond::E), 16),
-            ("cmovg", Op::Cmov(Cond::G), 0),
-            ("cmovge", Op::Cmov(Cond::Ge), 0),
-            ("cmovgel", Op::Cmov(Cond::Ge), 32),
-            ("cmovgeq", Op::Cmov(Cond::Ge), 64),
-            ("cmovgew", Op::Cmov(Cond::Ge), 16),
-            ("cmovgl", Op::Cmov(Cond::G), 32),
-            ("cmovgq", Op::Cmov(Cond::G), 64),
-            ("cmovgw", Op::Cmov(Cond::G), 16),
-            ("cmovl", Op::Cmov(Cond::L), 0),
-            ("cmovle", Op::Cmov(Cond::Le), 0),
-            ("cmovlel", Op::Cmov(Cond::Le), 32),
-            ("cmovleq", Op::Cmov(Cond::Le), 64),
-            ("cmovlew", Op::Cmov(Cond::Le), 16),
-            ("cmovll", Op::Cmov(Cond::L), 32),
-            ("cmovlq", Op::Cmov(Cond::L), 64),
-            ("cmovlw", Op::Cmov(Cond::L), 16),
-            ("cmovna", Op::Cmov(Cond::Be), 0),
-            ("cmovnae", Op::Cmov(Cond::B), 0),
-            ("cmovnael", Op::Cmov(Cond::B), 32),
-            ("cmovnaeq", Op::Cmov(Cond::B), 64),
-            ("cmovnaew", Op::Cmov(Cond::B), 16),
-            ("cmovnal", Op::Cmov(Cond::Be), 32),
-            ("cmovnaq", Op::Cmov(Cond::Be), 64),
-            ("cmovnaw", Op::Cmov(Cond::Be), 16),
-            ("cmovnb", Op::Cmov(Cond::Ae), 0),
-            ("cmovnbe", Op::Cmov(Cond::A), 0),
-            ("cmovnbel", Op::Cmov(Cond::A), 32),
-            ("cmovnbeq", Op::Cmov(Cond::A), 64),
-            ("cmovnbew", Op::Cmov(Cond::A), 16),
-            ("cmovnbl", Op::Cmov(Cond::Ae), 32),
-            ("cmovnbq", Op::Cmov(Cond::Ae), 64),
-            ("cmovnbw", Op::Cmov(Cond::Ae), 16),
-            ("cmovnc", Op::Cmov(Cond::Ae), 0),
-            ("cmovncl", Op::Cmov(Cond::Ae), 32),
-            ("cmovncq", Op::Cmov(Cond::Ae), 64),
-            ("cmovncw", Op::Cmov(Cond::Ae), 16),
-        ],
-        mnemonic,
-    )
-}
-
-/// The rows of `cmovCC`, from `ne` to `z`.
-#[tactic(auto, unfolding(crate::specs::Spellings::cmovne_to_cmovz))]
-fn cmovne_to_cmovz(mnemonic: &[u8]) -> Option<Shape>
-    ensures { result ≡ named cmovne_to_cmovz mnemonic.now }
-{
-    find(
-        &[
-            ("cmovne", Op::Cmov(Cond::Ne), 0),
-            ("cmovnel", Op::Cmov(Cond::Ne), 32),
-            ("cmovneq", Op::Cmov(Cond::Ne), 64),
-            ("cmovnew", Op::Cmov(Cond::Ne), 16),
-            ("cmovng", Op::Cmov(Cond::Le), 0),
-            ("cmovnge", Op::Cmov(Cond::L), 0),
-            ("cmovngel", Op::Cmov(Cond::L), 32),
-            ("cmovngeq", Op::Cmov(Cond::L), 64),
-            ("cmovngew", Op::Cmov(Cond::L), 16),
-            ("cmovngl", Op::Cmov(Cond::Le), 32),
-            ("cmovngq", Op::Cmov(Cond::Le), 64),
-            ("cmovngw", Op::Cmov(Cond::Le), 16),
-            ("cmovnl", Op::Cmov(Cond::Ge), 0),
-            ("cmovnle", Op::Cmov(Cond::G), 0),
-            ("cmovnlel", Op::Cmov(Cond::G), 32),
-            ("cmovnleq", Op::Cmov(Cond::G), 64),
-            ("cmovnlew", Op::Cmov(Cond::G), 16),
-            ("cmovnll", Op::Cmov(Cond::Ge), 32),
-            ("cmovnlq", Op::Cmov(Cond::Ge), 64),
-            ("cmovnlw", Op::Cmov(Cond::Ge), 16),
-            ("cmovno", Op::Cmov(Cond::No), 0),
-            ("cmovnol", Op::Cmov(Cond::No), 32),
-            ("cmovnoq", Op::Cmov(Cond::No), 64),
-            ("cmovnow", Op::Cmov(Cond::No), 16),
-            ("cmovnp", Op::Cmov(Cond::Np), 0),
-            ("cmovnpl", Op::Cmov(Cond::Np), 32),
-            ("cmovnpq", Op::Cmov(Cond::Np), 64),
-            ("cmovnpw", Op::Cmov(Cond::Np), 16),
-            ("cmovns", Op::Cmov(Cond::Ns), 0),
-            ("cmovnsl", Op::Cmov(Cond::Ns), 32),
-            ("cmovnsq", Op::Cmov(Cond::Ns), 64),
-            ("cmovnsw", Op::Cmov(Cond::Ns), 16),
-            ("cmovnz", Op::Cmov(Cond::Ne), 0),
-            ("cmovnzl", Op::Cmov(Cond::Ne), 32),
-            ("cmovnzq", Op::Cmov(Cond::Ne), 64),
-            ("cmovnzw", Op::Cmov(Cond::Ne), 16),
-            ("cmovo", Op::Cmov(Cond::O), 0),
-            ("cmovol", Op::Cmov(Cond::O), 32),
-            ("cmovoq", Op::Cmov(Cond::O), 64),
-            ("cmovow", Op::Cmov(Cond::O), 16),
-            ("cmovp", Op::Cmov(Cond::P), 0),
-            ("cmovpe", Op::Cmov(Cond::P), 0),
-            ("cmovpel", Op::Cmov(Cond::P), 32),
-            ("cmovpeq", Op::Cmov(Cond::P), 64),
-            ("cmovpew", Op::Cmov(Cond::P), 16),
-            ("cmovpl", Op::Cmov(Cond::P), 32),
-            ("cmovpo", Op::Cmov(Cond::Np), 0),
-            ("cmovpol", Op::Cmov(Cond::Np), 32),
-            ("cmovpoq", Op::Cmov(Cond::Np), 64),
-            ("cmovpow", Op::Cmov(Cond::Np), 16),
-            ("cmovpq", Op::Cmov(Cond::P), 64),
-            ("cmovpw", Op::Cmov(Cond::P), 16),
-            ("cmovs", Op::Cmov(Cond::S), 0),
-            ("cmovsl", Op::Cmov(Cond::S), 32),
-            ("cmovsq", Op::Cmov(Cond::S), 64),
-            ("cmovsw", Op::Cmov(Cond::S), 16),
-            ("cmovz", Op::Cmov(Cond::E), 0),
-            ("cmovzl", Op::Cmov(Cond::E), 32),
-            ("cmovzq", Op::Cmov(Cond::E), 64),
-            ("cmovzw", Op::Cmov(Cond::E), 16),
-        ],
-        mnemonic,
-    )
-}
-
-/// The rows from `cmp` to `lea`, with `jCC` and `jmp`.
-#[tactic(auto, unfolding(crate::specs::Spellings::cmp_to_lea))]
-fn cmp_to_lea(mnemonic: &[u8]) -> Option<Shape>
-    ensures { result ≡ named cmp_to_lea mnemonic.now }
-{
-    find(
-        &[
-            ("cmpb", Op::Cmp, 8),
-            ("cmpl", Op::Cmp, 32),
-            ("cmpq", Op::Cmp, 64),
-            ("cmpw", Op::Cmp, 16),
-            ("decb", Op::Dec, 8),
-            ("decl", Op::Dec, 32),
-            ("decq", Op::Dec, 64),
-            ("decw", Op::Dec, 16),
-            ("endbr64", Op::Endbr64, 64),
-            ("imull", Op::Imul, 32),
-            ("imulq", Op::Imul, 64),
-            ("imulw", Op::Imul, 16),
-            ("incb", Op::Inc, 8),
-            ("incl", Op::Inc, 32),
-            ("incq", Op::Inc, 64),
-            ("incw", Op::Inc, 16),
-            ("ja", Op::Jump(Cond::A), 64),
-            ("jae", Op::Jump(Cond::Ae), 64),
-            ("jb", Op::Jump(Cond::B), 64),
-            ("jbe", Op::Jump(Cond::Be), 64),
-            ("jc", Op::Jump(Cond::B), 64),
-            ("je", Op::Jump(Cond::E), 64),
-            ("jg", Op::Jump(Cond::G), 64),
-            ("jge", Op::Jump(Cond::Ge), 64),
-            ("jl", Op::Jump(Cond::L), 64),
-            ("jle", Op::Jump(Cond::Le), 64),
-            ("jmp", Op::Jmp, 64),
-            ("jna", Op::Jump(Cond::Be), 64),
-            ("jnae", Op::Jump(Cond::B), 64),
-            ("jnb", Op::Jump(Cond::Ae), 64),
-            ("jnbe", Op::Jump(Cond::A), 64),
-            ("jnc", Op::Jump(Cond::Ae), 64),
-            ("jne", Op::Jump(Cond::Ne), 64),
-            ("jng", Op::Jump(Cond::Le), 64),
-            ("jnge", Op::Jump(Cond::L), 64),
-            ("jnl", Op::Jump(Cond::Ge), 64),
-            ("jnle", Op::Jump(Cond::G), 64),
-            ("jno", Op::Jump(Cond::No), 64),
-            ("jnp", Op::Jump(Cond::Np), 64),
-            ("jns", Op::Jump(Cond::Ns), 64),
-            ("jnz", Op::Jump(Cond::Ne), 64),
-            ("jo", Op::Jump(Cond::O), 64),
-            ("jp", Op::Jump(Cond::P), 64),
-            ("jpe", Op::Jump(Cond::P), 64),
-            ("jpo", Op::Jump(Cond::Np), 64),
-            ("js", Op::Jump(Cond::S), 64),
-            ("jz", Op::Jump(Cond::E), 64),
-            ("leal", Op::Lea, 32),
-            ("leaq", Op::Lea, 64),
-        ],
-        mnemonic,
-    )
-}
-
-/// The rows from `mov` to `sar`.
-#[tactic(auto, unfolding(crate::specs::Spellings::mov_to_sar))]
-fn mov_to_sar(mnemonic: &[u8]) -> Option<Shape>
-    ensures { result ≡ named mov_to_sar mnemonic.now }
-{
-    find(
-        &[
-            ("movabsq", Op::Movabs, 64),
-            ("movb", Op::Mov, 8),
-            ("movl", Op::Mov, 32),
-            ("movq", Op::Mov, 64),
-            ("movsbl", Op::Movsx(8), 32),
-            ("movsbq", Op::Movsx(8), 64),
-            ("movsbw", Op::Movsx(8), 16),
-            ("movslq", Op::Movsx(32), 64),
-            ("movswl", Op::Movsx(16), 32),
-            ("movswq", Op::Movsx(16), 64),
-            ("movw", Op::Mov, 16),
-            ("movzbl", Op::Movzx(8), 32),
-            ("movzbq", Op::Movzx(8), 64),
-            ("movzbw", Op::Movzx(8), 16),
-            ("movzwl", Op::Movzx(16), 32),
-            ("movzwq", Op::Movzx(16), 64),
-            ("negb", Op::Neg, 8),
-            ("negl", Op::Neg, 32),
-            ("negq", Op::Neg, 64),
-            ("negw", Op::Neg, 16),
-            ("nop", Op::Nop, 64),
-            ("notb", Op::Not, 8),
-            ("notl", Op::Not, 32),
-            ("notq", Op::Not, 64),
-            ("notw", Op::Not, 16),
-            ("orb", Op::Or, 8),
-            ("orl", Op::Or, 32),
-            ("orq", Op::Or, 64),
-            ("orw", Op::Or, 16),
-            ("popq", Op::Pop, 64),
-            ("pushq", Op::Push, 64),
-            ("ret", Op::Ret, 64),
-            ("retq", Op::Ret, 64),
-            ("salb", Op::Shl, 8),
-            ("sall", Op::Shl, 32),
-            ("salq", Op::Shl, 64),
-            ("salw", Op::Shl, 16),
-            ("sarb", Op::Sar, 8),
-            ("sarl", Op::Sar, 32),
-            ("sarq", Op::Sar, 64),
-            ("sarw", Op::Sar, 16),
-        ],
-        mnemonic,
-    )
-}
-
-/// The rows of `setCC`.
-#[tactic(auto, unfolding(crate::specs::Spellings::set_rows))]
-fn set_rows(mnemonic: &[u8]) -> Option<Shape>
-    ensures { result ≡ named set_rows mnemonic.now }
-{
-    find(
-        &[
-            ("seta", Op::Set(Cond::A), 8),
-            ("setae", Op::Set(Cond::Ae), 8),
-            ("setb", Op::Set(Cond::B), 8),
-            ("setbe", Op::Set(Cond::Be), 8),
-            ("setc", Op::Set(Cond::B), 8),
-            ("sete", Op::Set(Cond::E), 8),
-            ("setg", Op::Set(Cond::G), 8),
-            ("setge", Op::Set(Cond::Ge), 8),
-            ("setl", Op::Set(Cond::L), 8),
-            ("setle", Op::Set(Cond::Le), 8),
-            ("setna", Op::Set(Cond::Be), 8),
-            ("setnae", Op::Set(Cond::B), 8),
-            ("setnb", Op::Set(Cond::Ae), 8),
-            ("setnbe", Op::Set(Cond::A), 8),
-            ("setnc", Op::Set(Cond::Ae), 8),
-            ("setne", Op::Set(Cond::Ne), 8),
-            ("setng", Op::Set(Cond::Le), 8),
-            ("setnge", Op::Set(Cond::L), 8),
-            ("setnl", Op::Set(Cond::Ge), 8),
-            ("setnle", Op::Set(Cond::G), 8),
-            ("setno", Op::Set(Cond::No), 8),
-            ("setnp", Op::Set(Cond::Np), 8),
-            ("setns", Op::Set(Cond::Ns), 8),
-            ("setnz", Op::Set(Cond::Ne), 8),
-            ("seto", Op::Set(Cond::O), 8),
-            ("setp", Op::Set(Cond::P), 8),
-            ("setpe", Op::Set(Cond::P), 8),
-            ("setpo", Op::Set(Cond::Np), 8),
-            ("sets", Op::Set(Cond::S), 8),
-            ("setz", Op::Set(Cond::E), 8),
-        ],
-        mnemonic,
-    )
-}
-
-/// The rows from `shl` to `xor`.
-#[tactic(auto, unfolding(crate::specs::Spellings::shl_to_xor))]
-fn shl_to_xor(mnemonic: &[u8]) -> Option<Shape>
-    ensures { result ≡ named shl_to_xor mnemonic.now }
-{
-    find(
-        &[
-            ("shlb", Op::Shl, 8),
-            ("shll", Op::Shl, 32),
-            ("shlq", Op::Shl, 64),
-            ("shlw", Op::Shl, 16),
-            ("shrb", Op::Shr, 8),
-            ("shrl", Op::Shr, 32),
-            ("shrq", Op::Shr, 64),
-            ("shrw", Op::Shr, 16),
-            ("subb", Op::Sub, 8),
-            ("subl", Op::Sub, 32),
-            ("subq", Op::Sub, 64),
-            ("subw", Op::Sub, 16),
-            ("testb", Op::Test, 8),
-            ("testl", Op::Test, 32),
-            ("testq", Op::Test, 64),
-            ("testw", Op::Test, 16),
-            ("xorb", Op::Xor, 8),
-            ("xorl", Op::Xor, 32),
-            ("xorq", Op::Xor, 64),
-            ("xorw", Op::Xor, 16),
-        ],
-        mnemonic,
-    )
-}
+/// A law: the shape of each row has an operation, a width and lanes that the operations have.
+#[tactic(auto, using(crate::proofs::Shapes::shapes))]
+pub fn rows_have_shapes()
+    ensures { (mnemonic : List ℕ) (shape : Shape) → named table_rows mnemonic ≡ Some shape
+        → is_shape shape ≡ true }
+{}

@@ -1,22 +1,26 @@
 //! The laws of the instruction table: functions without code, whose contracts say what holds of every
 //! instruction of the table.
-ghost use Rattle.std.specs.Prelude.{◌≡◌, ◌≤◌, ◌<◌, ◌^◌, ℕ, List, length, Some, Ok};
+ghost use Rattle.std.specs.Prelude.{◌≡◌, ◌≤◌, ◌<◌, ◌^◌, ℕ, Bool, List, length, Some, Ok};
 ghost use Rattle.std.specs.List.{AllByRecursion, count_by};
 ghost use Rattle.align_base.specs.declared.op.Op.{Op};
 ghost use Rattle.insn_table.specs.declared.insn.Operand.{Operand};
 ghost use Rattle.insn_table.specs.declared.insn.Insn.{Insn};
 ghost use Rattle.insn_table.specs.declared.shape.Shape.{Shape};
-ghost use Rattle.insn_table.specs.Spellings.{named, general_rows};
-ghost use Rattle.insn_table.specs.Forms.{forms, takes, fits_of};
+ghost use Rattle.insn_table.specs.Rows.{named};
+ghost use Rattle.insn_table.specs.Spellings.{table_rows};
+ghost use Rattle.insn_table.specs.Classes.{takes};
+ghost use Rattle.insn_table.specs.Forms.{forms, fits_of};
 ghost use Rattle.insn_table.specs.Plain.{IsPlain};
 ghost use Rattle.insn_table.specs.Closed.{IsClosed};
-ghost use Rattle.insn_table.specs.Table.{shape_of, HasRegisters, IsTableInsn};
+ghost use Rattle.insn_table.specs.Table.{HasRegisters, IsTableInsn};
 
-/// A law: each instruction of the table has a mnemonic, which names its shape.
+/// A law: each instruction of the table has a mnemonic, and it is what `fits` makes of the shape that the
+/// mnemonic names and of its operands as they are.
 #[tactic(auto, using(crate::proofs::TableInsns::mnemonics))]
 pub fn table_insns_have_mnemonics()
     ensures { (i : Insn) → IsTableInsn i
-        → (mnemonic : List ℕ) × (named general_rows mnemonic ≡ Some (shape_of i)) }
+        → (mnemonic : List ℕ) × ((shape : Shape) × (named table_rows mnemonic ≡ Some shape)
+        × (fits_of shape i.args i.line ≡ Ok i)) }
 {}
 
 /// A law: what `fits` makes of a shape that a mnemonic names is an instruction of the table, where its
@@ -24,15 +28,14 @@ pub fn table_insns_have_mnemonics()
 #[tactic(auto, using(crate::proofs::TableInsns::fitted))]
 pub fn fitted_insns_are_of_the_table()
     ensures { (mnemonic : List ℕ) (shape : Shape) (args : List Operand) (line : ℕ) (i : Insn)
-        → named general_rows mnemonic ≡ Some shape → fits_of shape args line ≡ Ok i
+        → named table_rows mnemonic ≡ Some shape → fits_of shape args line ≡ Ok i
         → AllByRecursion HasRegisters i.args → IsTableInsn i }
 {}
 
 /// A law: no two forms of an operation take the same operands, so the first one that takes them is the
 /// only one.
-#[tactic(auto, using(crate::proofs::Apart::apart))]
 pub fn forms_are_apart()
-    ensures { (op : Op) (w : ℕ) (args : List Operand) → count_by (takes args) (forms op w) ≤ 1 }
+    ensures { (op : Op) (vex : Bool) (w : ℕ) (args : List Operand) → count_by (takes args) (forms op vex w) ≤ 1 }
 {}
 
 /// A law: a plain function is closed.

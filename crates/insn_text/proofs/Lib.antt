@@ -1,4 +1,3 @@
 pub mod Decimals
-pub mod Naming
 pub mod ReadBack
 pub mod Showing

@@ -1,5 +1,5 @@
 -- Printed operands are read back.
-use Rattle.std.proofs.Common.{◌≡◌, ◌≢◌, ◌⊎◌, inl, inr, ℕ, zero, suc, ◌+◌, ◌-◌, ◌/◌, ◌%◌, ◌^◌, ◌<◌, ◌≤◌, ◌==◌, eqb, Bool, true, false, ◌&&◌, not, nat_lt, ℤ, pos, negsuc, List, [], ◌∷◌, ◌++◌, length, Option, Some, None, slice_get, unwrap_or, codes, decimal, cond, refl, sym, ◌∙◌, ap, subst, append_assoc, arith}
+use Rattle.std.proofs.Common.{◌≡◌, ◌≢◌, ◌⊎◌, inl, inr, ℕ, zero, suc, ◌+◌, ◌-◌, ◌/◌, ◌%◌, ◌^◌, ◌<◌, ◌≤◌, ◌==◌, eqb, Bool, true, false, ◌&&◌, ◌||◌, if◌then◌else◌, not, nat_lt, ℤ, pos, negsuc, List, [], ◌∷◌, ◌++◌, length, Option, Some, None, slice_get, unwrap_or, codes, decimal, cond, refl, sym, ◌∙◌, ap, subst, append_assoc, arith}
 use Rattle.std.specs.Fmt.{signed_decimal}
 use Rattle.std.specs.List.{list_all}
 use Rattle.std.proofs.lemmas.Bool.Decides.{Decides-eqb, nat_tests}
@@ -70,7 +70,7 @@ open-kept n (b ∷ text) h =
 
 names_plain : (w n : ℕ) (name : List ℕ) → slice_get (register_names w) n ≡ Some name → list_all is_plain name ≡ true
 unfolding is_plain
-names_plain w n name there = all-names (λ (t : List ℕ). list_all is_plain t) w n name refl refl refl refl there
+names_plain w n name there = all-names (λ (t : List ℕ). list_all is_plain t) w n name (record { all64 = refl; all32 = refl; all16 = refl; all8 = refl; all128 = refl; all256 = refl }) there
 
 -- register n of 64 bits is one of the sixteen
 abbrev IsNamed : ℕ → Type 0
@@ -274,12 +274,19 @@ memory-read base index scale disp (Based m n first named other b i s) within =
     (subst (λ (x : Option ℕ). IsMemoryText (memory_text (Some m) x scale disp) (Mem (Some m) x scale disp)) (sym i)
     (based-read m n scale disp first named other s within))
 
+-- the text of a register's operand
+register-back : (w n v : ℕ) (vector : Bool) → (eqb v 128 || eqb v 256) ≡ vector → IsRegisterText (register_text v n) n v
+    → IsOperandText (operand_text w (if vector then Vec n v else Reg n v)) (Plain (if vector then Vec n v else Reg n v))
+unfolding operand_text
+register-back w n v true e read = inl (n, v, read, rw e refl)
+register-back w n v false e read = inl (n, v, read, rw e refl)
+
 -- Whatever text a register or memory was read from, what is printed of it is read as it again.
 pub plain-read : (w : ℕ) (text : List ℕ) (operand : Operand) → IsOperandText text (Plain operand) → IsOperandText (operand_text w operand) (Plain operand)
 unfolding operand_text
 plain-read w text operand (inl reg) =
     subst (λ (o : Operand). IsOperandText (operand_text w o) (Plain o)) (sym reg.3)
-    (inl (reg.0, reg.1, register-read reg.1 reg.0 reg.2.name reg.2.known, refl))
+    (register-back w reg.0 reg.1 (eqb reg.1 128 || eqb reg.1 256) refl (register-read reg.1 reg.0 reg.2.name reg.2.known))
 plain-read w text operand (inr mem) =
     subst (λ (o : Operand). IsOperandText (operand_text w o) (Plain o)) (sym mem.means)
     (inr (memory-read mem.base mem.index mem.scale mem.disp (addressed mem.parts mem.base mem.index mem.scale mem.address) (bounded mem.before mem.disp mem.displaced)))

@@ -5,13 +5,13 @@ use Rattle.insn_table.specs.declared.insn.Insn.{Insn}
 use Rattle.insn_table.specs.declared.insn.Operand.{Operand}
 use Rattle.insn_table.specs.declared.insn.Operand.TheVariants.{Reg, Imm, Mem, Vec, Pool, Target, Nothing}
 use Rattle.att_statements.specs.Operands.{register_names}
-use Rattle.insn_text.specs.Mnemonics.{mnemonic}
+use Rattle.insn_mnemonics.specs.Mnemonics.{mnemonic}
 
--- `%` and the name of general register n of w bits
+-- `%` and the name of register n of w bits
 unfoldable pub register_text : ℕ → ℕ → List ℕ
 register_text w n = codes "%" ++ unwrap_or (slice_get (register_names w) n) []
 
--- how many numbers w bits hold
+-- how many numbers a word of w bits holds; the immediates of vectors, below 256, are printed as they are
 abbrev pub numbers_of : ℕ → ℕ
 numbers_of w = if w == 8 then 2 ^ 8 else if w == 16 then 2 ^ 16 else if w == 32 then 2 ^ 32 else 2 ^ 64
 
@@ -38,16 +38,12 @@ memory_text None (Some index) scale disp =
 memory_text (Some base) (Some index) scale disp =
     displacement_text disp ++ codes "(" ++ register_text 64 base ++ codes "," ++ scaled_text index scale
 
--- the name of vector register n of w bits
-unfoldable pub vector_text : ℕ → ℕ → List ℕ
-vector_text w n = (if w == 256 then codes "%ymm" else codes "%xmm") ++ decimal n
-
 -- the text of an operand, of which an immediate has the form's width
 unfoldable pub operand_text : ℕ → Operand → List ℕ
 operand_text w (Reg n v) = register_text v n
 operand_text w (Imm v) = number_text (numbers_of w) v
 operand_text w (Mem base index scale disp) = memory_text base index scale disp
-operand_text w (Vec n v) = vector_text v n
+operand_text w (Vec n v) = register_text v n
 operand_text w (Pool at) = codes "pool+" ++ decimal at ++ codes "(%rip)"
 operand_text w (Target place) = codes "@" ++ decimal place
 operand_text w Nothing = []
@@ -60,4 +56,4 @@ operands_text lead w (operand ∷ rest) = lead ++ operand_text w operand ++ oper
 
 -- the text of an instruction: its mnemonic, a space, and its operands with commas between them
 unfoldable pub insn_text : Insn → List ℕ
-insn_text i = mnemonic i.op i.w ++ operands_text (codes " ") i.w i.args
+insn_text i = mnemonic i.op i.vex i.w ++ operands_text (codes " ") i.w i.args

@@ -1,4 +1,3 @@
 pub mod InsnText
-pub mod Mnemonics
 pub mod ReadBack
 pub mod ShowText

@@ -2,9 +2,9 @@
 ghost use Rattle.std.specs.Prelude.{◌≡◌, ◌++◌, ◌<◌, IfOk, OnOk, string_bytes};
 ghost use Rattle.insn_text.specs.InsnText.{insn_text, operands_text};
 
-use crate::mnemonics::push_mnemonic;
 use crate::operands::push_operand;
 use align_base::Memory;
+use insn_mnemonics::push_mnemonic;
 use insn_table::{Insn, Operand};
 use std::alloc::{AllocError, Global};
 
@@ -23,7 +23,7 @@ pub fn insn_text(alloc: Global, insn: &Insn) -> Result<String, Memory>
 pub(crate) fn push_insn(out: &mut String, insn: &Insn) -> Result<(), AllocError>
     ensures { OnOk result (string_bytes out.new ≡ string_bytes out.old ++ insn_text insn.now) }
 {
-    push_mnemonic(out, insn.op, insn.w)?;
+    push_mnemonic(out, insn.op, insn.vex, insn.w)?;
     push_operands(out, " ", insn.w, &insn.args)
 }
 

@@ -5,16 +5,14 @@
 //!
 //!     let text = insn_text(alloc, &insn)?;    // addl (%rdi,%rcx,4),%eax
 //!
-//! The mnemonic of a new row is a line in `specs/Mnemonics.antt` and an arm in `src/mnemonics.rt`.
+//! Mnemonics are those of `insn_mnemonics`.
 #![tactic(auto)]
 
 mod insns;
 mod laws;
-mod mnemonics;
 mod operands;
 mod show;
 
 pub use insns::insn_text;
 pub use laws::operands_are_read_back;
-pub use mnemonics::mnemonics_name_shapes;
 pub use show::show_text;

@@ -1,7 +1,7 @@
 //! The text of operands.
 ghost use Rattle.std.specs.Prelude.{◌≡◌, ◌++◌, ◌/◌, ◌<◌, ◌≤◌, [], OnOk, map, slice_get, string_bytes, unwrap_or};
 ghost use Rattle.att_statements.specs.Operands.{register_names};
-ghost use Rattle.insn_text.specs.InsnText.{displacement_text, memory_text, number_text, numbers_of, operand_text, register_text, scaled_text, vector_text};
+ghost use Rattle.insn_text.specs.InsnText.{displacement_text, memory_text, number_text, numbers_of, operand_text, register_text, scaled_text};
 
 use insn_table::Operand;
 use std::alloc::AllocError;
@@ -12,7 +12,7 @@ pub(crate) fn push_operand(out: &mut String, w: u32, operand: Operand) -> Result
     ensures { OnOk result (string_bytes out.new ≡ string_bytes out.old ++ operand_text w operand) }
 {
     match operand {
-        Operand::Reg { n, w } => push_register(out, w, n),
+        Operand::Reg { n, w } | Operand::Vec { n, w } => push_register(out, w, n),
         Operand::Imm(v) => push_number(out, w, v),
         Operand::Mem {
             base,
@@ -20,23 +20,13 @@ pub(crate) fn push_operand(out: &mut String, w: u32, operand: Operand) -> Result
             scale,
             disp,
         } => push_memory(out, base, index, scale, disp),
-        Operand::Vec { n, w } => push_vector(out, w, n),
         Operand::Pool(at) => write!(out, "pool+{at}(%rip)"),
         Operand::Target(place) => write!(out, "@{place}"),
         Operand::Nothing => Ok(()),
     }
 }
 
-/// Appends the name of a vector register.
-#[tactic(auto, unfolding(crate::specs::InsnText::vector_text))]
-fn push_vector(out: &mut String, w: u32, n: u8) -> Result<(), AllocError>
-    ensures { OnOk result (string_bytes out.new ≡ string_bytes out.old ++ vector_text w n) }
-{
-    let stem = if w == 256 { "%ymm" } else { "%xmm" };
-    write!(out, "{stem}{n}")
-}
-
-/// Appends the name of general register `n` of `w` bits.
+/// Appends the name of register `n` of `w` bits.
 #[tactic(auto, unfolding(crate::specs::InsnText::register_text))]
 fn push_register(out: &mut String, w: u32, n: u8) -> Result<(), AllocError>
     ensures { OnOk result (string_bytes out.new ≡ string_bytes out.old ++ register_text w n) }
@@ -45,7 +35,7 @@ fn push_register(out: &mut String, w: u32, n: u8) -> Result<(), AllocError>
     write!(out, "%{name}")
 }
 
-/// The name of general register `n` of `w` bits; no text where there is none.
+/// The name of register `n` of `w` bits; no text where there is none.
 fn register_name(w: u32, n: u8) -> &'static str
     ensures { result.now ≡ unwrap_or (slice_get (register_names w) n) [] }
 {
@@ -75,6 +65,20 @@ fn register_name(w: u32, n: u8) -> &'static str
             &[
                 "al", "cl", "dl", "bl", "spl", "bpl", "sil", "dil", "r8b", "r9b", "r10b", "r11b",
                 "r12b", "r13b", "r14b", "r15b",
+            ],
+            n,
+        ),
+        128 => name_in(
+            &[
+                "xmm0", "xmm1", "xmm2", "xmm3", "xmm4", "xmm5", "xmm6", "xmm7", "xmm8", "xmm9",
+                "xmm10", "xmm11", "xmm12", "xmm13", "xmm14", "xmm15",
+            ],
+            n,
+        ),
+        256 => name_in(
+            &[
+                "ymm0", "ymm1", "ymm2", "ymm3", "ymm4", "ymm5", "ymm6", "ymm7", "ymm8", "ymm9",
+                "ymm10", "ymm11", "ymm12", "ymm13", "ymm14", "ymm15",
             ],
             n,
         ),

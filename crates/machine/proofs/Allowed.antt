@@ -1,5 +1,5 @@
 -- What is allowed lies in spans.
-use Rattle.std.proofs.Common.{◌≡◌, inl, inr, ℕ, ◌+◌, ◌-◌, ◌/◌, ◌%◌, ◌^◌, ◌<◌, ◌≤◌, Bool, true, false, not, nat_lt, ◌&&◌, ◌||◌, List, [], ◌∷◌, refl, arith}
+use Rattle.std.proofs.Common.{◌≡◌, inl, inr, ℕ, ◌+◌, ◌-◌, ◌/◌, ◌%◌, ◌^◌, ◌<◌, ◌≤◌, Bool, true, false, not, nat_lt, ◌&&◌, ◌||◌, List, [], ◌∷◌, refl, sym, subst, arith}
 use Rattle.std.specs.List.{AllByRecursion, list_all, list_any}
 use Rattle.std.proofs.lemmas.Bool.Decides.{nat_tests}
 use Rattle.align_base.specs.declared.op.Op.{Op}
@@ -9,13 +9,18 @@ use Rattle.insn_table.specs.declared.insn.Insn.{Insn}
 use Rattle.insn_table.specs.declared.insn.Operand.{Operand}
 use Rattle.insn_table.specs.declared.insn.Operand.TheVariants.{Reg, Imm, Mem, Vec, Pool, Target, Nothing}
 use Rattle.machine.specs.declared.state.Region.{Region}
-use Rattle.machine.specs.Access.{Access, access_of, arity, holds_access, is_allowed, is_on_stack, operand_accesses, writes}
+use Rattle.machine.specs.Access.{Access, access_of, accesses, are_aligned, arity, holds_access, is_allowed, is_on_stack, operand_accesses, target_width, writes}
 use Rattle.machine.specs.Kept.{IsKept, IsRegion, Kept, is_spanned, pure_of}
 use Rattle.machine.specs.Machine.{offset_from, stack_base}
 use Rattle.machine.specs.Operands.{effective_address, operand}
 use Rattle.machine.specs.Runnable.{IsGeneralRegister}
 use Rattle.machine.specs.Spanned.{AreSpanned, IsSpanned}
 use Rattle.machine.specs.Step.{target_operand}
+use Rattle.machine.specs.declared.operands.Family.{Family}
+use Rattle.machine.specs.declared.operands.Family.TheVariants.{OnVectors}
+use Rattle.machine.specs.Family.{family_of}
+use Rattle.machine.specs.Vectors.{last_operand}
+use Rattle.machine.proofs.VectorFamilies.{IsOfWords, vectors_write, words_width}
 use Rattle.machine.proofs.Writing.{written_allowed}
 
 -- the j-th of n bytes that lie within len ones from a base on
@@ -78,11 +83,20 @@ target_by : (op : Op) (i : Insn) (k : Kept) → IsSpanned k i.w (operand i (arit
 target_by ops.Cltq i k h = tt
 target_by _ i k h = h
 
--- what a row writes is spanned, where its accesses are allowed
-pub target_spanned : (i : Insn) (k : Kept) → IsKept k → list_all (is_allowed (pure_of k)) (operand_accesses i (pure_of k)) ≡ true → writes i.op ≡ true
+-- what a row of words writes is spanned, where its accesses are allowed
+pub target_spanned : (i : Insn) (k : Kept) → IsOfWords (family_of i.op) → IsKept k → list_all (is_allowed (pure_of k)) (operand_accesses i (pure_of k)) ≡ true → writes i.op ≡ true
     → IsSpanned k i.w (target_operand i.op i)
-target_spanned i k h allowed w =
-    target_by i.op i k (operand_spanned k (operand i (arity i - 1)) i.w h (written_allowed i (pure_of k) w allowed))
+target_spanned i k words h allowed w =
+    target_by i.op i k (operand_spanned k (operand i (arity i - 1)) i.w h
+    (subst (λ (n : ℕ). list_all (is_allowed (pure_of k)) (access_of (pure_of k) (operand i (arity i - 1)) n true) ≡ true) (words_width i.op i.w words) (written_allowed i (pure_of k) w allowed)))
+
+-- what an operation on vectors writes is spanned, where its tests hold
+pub vector_spanned : (i : Insn) (k : Kept) → family_of i.op ≡ OnVectors → IsKept k
+    → (list_all (is_allowed (pure_of k)) (accesses OnVectors i (pure_of k)) && are_aligned i (pure_of k)) ≡ true
+    → IsSpanned k (target_width i.op i.w) (last_operand i)
+vector_spanned i k f h allowed =
+    operand_spanned k (last_operand i) (target_width i.op i.w) h
+    (written_allowed i (pure_of k) (vectors_write i.op f) (both_true _ _ allowed).0)
 
 -- a register is no memory
 pub register_spanned : (k : Kept) (w : ℕ) (o : Operand) → IsGeneralRegister o → IsSpanned k w o

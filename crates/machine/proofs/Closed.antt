@@ -1,69 +1,155 @@
 -- Closed functions can be run: what the table says of an instruction is what running it needs.
-use Rattle.std.proofs.Common.{◌≡◌, ℕ, zero, suc, ◌-◌, ◌<◌, ◌==◌, Bool, true, false, ◌&&◌, ◌||◌, nat_lt, inl, inr, List, [], ◌∷◌, length, slice_get, unwrap_or, Some, None, cond, refl, sym, subst, ⊎_elim}
-use Rattle.std.specs.List.{AllByRecursion, find, list_all}
+use Rattle.std.proofs.Common.{◌≡◌, ◌⊎◌, ℕ, zero, suc, ◌-◌, ◌<◌, ◌==◌, Bool, true, false, not, ◌&&◌, ◌||◌, if◌then◌else◌, inl, inr, List, [], ◌∷◌, length, slice_get, unwrap_or, Some, None, cond, refl, sym, ◌∙◌, subst, arith, ⊎_elim}
+use Rattle.std.specs.List.{AllByRecursion, find, list_any}
 use Rattle.std.specs.Cmp.Lexicographic.{pointwise}
 use Rattle.std.proofs.lemmas.Bool.{ltb-true}
 use Rattle.std.proofs.lemmas.Bool.Decides.{Decides-eqb}
 use Rattle.align_base.specs.declared.op.Op.{Op}
 use Rattle.align_base.specs.declared.op.Op.TheVariants as ops
+use Rattle.align_base.specs.declared.vector_op.VectorOp.{VectorOp}
+use Rattle.align_base.specs.declared.vector_op.VectorOp.TheVariants.{Moving, Vzeroupper}
+use Rattle.align_base.specs.declared.vector_op.MoveOp.TheVariants.{Movq}
 use Rattle.insn_table.specs.declared.insn.Insn.{Insn}
 use Rattle.insn_table.specs.declared.insn.Operand.{Operand}
 use Rattle.insn_table.specs.declared.insn.Operand.TheVariants.{Reg, Imm, Mem, Vec, Pool, Target, Nothing}
-use Rattle.insn_table.specs.declared.forms.Class.{Class}
-use Rattle.insn_table.specs.declared.forms.Class.TheVariants.{Register, Writable, Count, Address, Label, Absent}
-use Rattle.insn_table.specs.Forms.{Form, forms, form_of, insn_of, is_target, number_fits, numbers_fit, one, takes, takes_kind, two, is_nothing}
+use Rattle.insn_table.specs.declared.classes.Class.{Class}
+use Rattle.insn_table.specs.declared.classes.Class.TheVariants.{Register, Readable, Writable, Count, Address, Label, Absent}
+use Rattle.insn_table.specs.declared.shape.Shape.{Shape}
+use Rattle.insn_table.specs.Classes.{Form, is_target, number_fits, numbers_fit, one, takes, takes_kind, two, is_nothing}
+use Rattle.insn_table.specs.Rows.{general}
+use Rattle.insn_table.specs.Widths.{has_shape, has_suffix, has_width, is_long, is_shape, is_wide, widens_to}
+use Rattle.insn_table.specs.Forms.{forms, insn_of, chosen, is_quadword_move, is_vector, told_width, width_of}
 use Rattle.insn_table.specs.Closed.{IsClosed, IsInside}
-use Rattle.insn_table.specs.Spellings.{Row, general_rows, add_to_cltq, cmova_to_cmovnc, cmovne_to_cmovz, cmp_to_lea, mov_to_sar, set_rows, shl_to_xor}
-use Rattle.insn_table.specs.Table.{HasRegisters, IsTableInsn, shape_of}
+use Rattle.insn_table.specs.Table.{HasRegisters, IsTableInsn}
 use Rattle.insn_table.proofs.Bools.{both_true, either_true}
-use Rattle.insn_table.proofs.TableInsns.{form-wide, judged-ok, passed_at, wide-cases}
+use Rattle.insn_table.proofs.TableInsns.{IsMade, fitted-made, wide-cases}
+use Rattle.machine.specs.declared.operands.Family.{Family}
 use Rattle.machine.specs.Access.{arity}
+use Rattle.machine.specs.Family.{family_of, vector_family}
 use Rattle.machine.specs.Operands.{operand}
-use Rattle.machine.specs.Runnable.{HasCount, HasRowOf, IsGeneralRegister, IsRunnable, IsRunnableFunction, IsWidth, JumpsBelow}
+use Rattle.machine.specs.Runnable.{HasCount, HasRowOf, HasWidth, IsGeneralRegister, IsRunnable, IsRunnableFunction, IsWidth, JumpsBelow}
 use Rattle.machine.specs.Step.{jump_place, target_operand}
+use Rattle.machine.proofs.VectorTable.{HasLanes, quadword-has, vector-row, vectors-have}
 
 -- widths
 
-abbrev is_width : ℕ → Bool
-is_width w = w == 8 || (w == 16 || (w == 32 || w == 64))
+-- What a mnemonic says of an instruction that was made: the width is the one that the mnemonic names, where it names one,
+-- and lanes are of widths that the row has.
+IsNamed : Op → ℕ → ℕ → Type 0
+IsNamed (ops.Vector op) v w = HasLanes op
+IsNamed op v w = (has_width op v ≡ true) × ((v ≡ 0) ⊎ (w ≡ v))
 
--- the widths that the rows of an operation name, but that a move by condition may name none
-unfoldable has_widths : Op → ℕ → Bool
-has_widths (ops.Cmov c) w = true
-has_widths (ops.Movzx m) w = is_width w && (is_width m && nat_lt m w)
-has_widths (ops.Movsx m) w = is_width w && (is_width m && nat_lt m w)
-has_widths ops.Cltq w = w == 64
-has_widths (ops.Set c) w = w == 8
-has_widths _ w = is_width w
+row-named : (op : Op) (vex : Bool) (v w : ℕ) → (v ≡ 0) ⊎ (w ≡ v) → has_shape op vex v ≡ true → IsNamed op v w
+unfolding IsNamed
+row-named (ops.Vector op) vex v w e h = vectors-have op vex (both_true _ _ h).0
+row-named _ vex v w e h = ((both_true _ _ h).1, e)
 
-unfoldable names_widths : Row → Bool
-names_widths row = has_widths row.1.op row.1.w
+either-width : (b : Bool) (v told : ℕ) → (v == 0) ≡ b → (v ≡ 0) ⊎ ((if b then told else v) ≡ v)
+either-width true v told e = inl ((Decides-eqb v 0).0 e)
+either-width false v told e = inr refl
 
-rows_widths : list_all names_widths general_rows ≡ true
-unfolding general_rows add_to_cltq cmova_to_cmovnc cmovne_to_cmovz cmp_to_lea mov_to_sar set_rows shl_to_xor has_widths names_widths
-rows_widths = refl
+chosen-named : (b : Bool) (shape : Shape) (args : List Operand) → is_shape shape ≡ true
+    → IsNamed (if b then general (ops.Vector (Moving Movq)) 128 else shape).op (if b then general (ops.Vector (Moving Movq)) 128 else shape).w
+    (width_of (if b then general (ops.Vector (Moving Movq)) 128 else shape) args)
+unfolding IsNamed
+chosen-named true shape args h = quadword-has
+chosen-named false shape args h =
+    row-named shape.op shape.vex shape.w (width_of shape args) (either-width (shape.w == 0) shape.w (told_width shape.vex args) refl) h
 
-table-widths : (i : Insn) → IsTableInsn i → has_widths i.op i.w ≡ true
-unfolding names_widths
-table-widths i t = passed_at names_widths general_rows t.row.index (t.mnemonic, shape_of i) rows_widths t.row.there
+-- an instruction that was made, by the row that its operands chose
+made-named : (shape : Shape) (args : List Operand) (line : ℕ) (i : Insn) → IsMade shape args line i → (v : ℕ) × IsNamed i.op v i.w
+made-named shape args line i made =
+    let b : Bool = is_quadword_move shape.op shape.w shape.vex && list_any is_vector args in
+    subst (λ (x : Insn). (v : ℕ) × IsNamed x.op v x.w) made.same ((chosen shape args).w, chosen-named b shape args made.named)
 
-width-from_test : (w : ℕ) → is_width w ≡ true → IsWidth w
-width-from_test w h =
-    ⊎_elim (λ (e : (w == 8) ≡ true). inl ((Decides-eqb w 8).0 e)) (λ (e : (w == 16 || (w == 32 || w == 64)) ≡ true). inr (wide-cases w e)) (either_true _ _ h)
+suffix-width : (v : ℕ) → has_suffix v ≡ true → IsWidth v
+suffix-width v h = ⊎_elim (λ (e : (v == 8) ≡ true). inl ((Decides-eqb v 8).0 e)) (λ (e : is_wide v ≡ true). inr (wide-cases v e)) (either_true _ _ h)
+
+long-width : (v : ℕ) → is_long v ≡ true → (v ≡ 32) ⊎ (v ≡ 64)
+long-width v h = ⊎_elim (λ (e : (v == 32) ≡ true). inl ((Decides-eqb v 32).0 e)) (λ (e : (v == 64) ≡ true). inr ((Decides-eqb v 64).0 e)) (either_true _ _ h)
+
+-- a source that is widened, and what it is widened to
+IsWidened : ℕ → ℕ → Type 0
+IsWidened m v = IsWidth m × IsWidth v × (m < v)
+
+bytes-widened : (m v : ℕ) → m ≡ 8 → (v ≡ 16) ⊎ ((v ≡ 32) ⊎ (v ≡ 64)) → IsWidened m v
+unfolding IsWidened
+bytes-widened m v e (inl f) = (inl e, inr (inl f), omega arith)
+bytes-widened m v e (inr (inl f)) = (inl e, inr (inr (inl f)), omega arith)
+bytes-widened m v e (inr (inr f)) = (inl e, inr (inr (inr f)), omega arith)
+
+words-widened : (m v : ℕ) → m ≡ 16 → (v ≡ 32) ⊎ (v ≡ 64) → IsWidened m v
+unfolding IsWidened
+words-widened m v e (inl f) = (inr (inl e), inr (inr (inl f)), omega arith)
+words-widened m v e (inr f) = (inr (inl e), inr (inr (inr f)), omega arith)
+
+doubles-widened : (m v : ℕ) → m ≡ 32 → v ≡ 64 → IsWidened m v
+unfolding IsWidened
+doubles-widened m v e f = (inr (inr (inl e)), inr (inr (inr f)), omega arith)
+
+widened : (m v : ℕ) → widens_to m v ≡ true → IsWidened m v
+widened m v h =
+    ⊎_elim (λ (e : (m == 8 && is_wide v) ≡ true). let both = both_true (m == 8) (is_wide v) e in bytes-widened m v ((Decides-eqb m 8).0 both.0) (wide-cases v both.1))
+    (λ (e : (m == 16 && is_long v) ≡ true). let both = both_true (m == 16) (is_long v) e in words-widened m v ((Decides-eqb m 16).0 both.0) (long-width v both.1))
+    (either_true _ _ h)
+
+signed-widened : (m v : ℕ) → (widens_to m v || (m == 32 && v == 64)) ≡ true → IsWidened m v
+signed-widened m v h =
+    ⊎_elim (λ (e : widens_to m v ≡ true). widened m v e)
+    (λ (e : (m == 32 && v == 64) ≡ true). let both = both_true (m == 32) (v == 64) e in doubles-widened m v ((Decides-eqb m 32).0 both.0) ((Decides-eqb v 64).0 both.1))
+    (either_true _ _ h)
+
+not_zero : (v : ℕ) → IsWidth v → v ≡ 0 → ⊥
+not_zero v (inl e) z = omega arith
+not_zero v (inr (inl e)) z = omega arith
+not_zero v (inr (inr (inl e))) z = omega arith
+not_zero v (inr (inr (inr e))) z = omega arith
+
+-- where the mnemonic names a width, it is the instruction's
+named-is : (v w : ℕ) → IsWidth v → (v ≡ 0) ⊎ (w ≡ v) → w ≡ v
+named-is v w width (inl z) = absurd (not_zero v width z)
+named-is v w width (inr e) = e
+
+width-of_named : (v w : ℕ) → IsWidth v → (v ≡ 0) ⊎ (w ≡ v) → IsWidth w
+width-of_named v w width e = subst IsWidth (sym (named-is v w width e)) width
+
+found_only_wide : (b : Bool) (p : Form → Bool) (form found : Form) → find p (if b then form ∷ [] else []) ≡ Some found → b ≡ true
+found_only_wide true p form found h = refl
+found_only_wide false p form found h = cc
+
+vector-width : (op : VectorOp) (w : ℕ) → HasWidth (vector_family op) w
+vector-width Vzeroupper w = tt
+vector-width _ w = tt
+
+quad-width : (v : ℕ) → (v == 64) ≡ true → IsWidth v
+quad-width v h = inr (inr (inr ((Decides-eqb v 64).0 h)))
 
 -- An operation of which a form was found has a width.
-form-width : (op : Op) (w : ℕ) (p : Form → Bool) (form : Form) → has_widths op w ≡ true → find p (forms op w) ≡ Some form → IsWidth w
-unfolding has_widths
-form-width (ops.Cmov c) w p form widths found = inr (wide-cases w (form-wide (ops.Cmov c) w p form refl found))
-form-width (ops.Movzx m) w p form widths found = width-from_test w (both_true _ _ widths).0
-form-width (ops.Movsx m) w p form widths found = width-from_test w (both_true _ _ widths).0
-form-width ops.Cltq w p form widths found = inr (inr (inr ((Decides-eqb w 64).0 widths)))
-form-width (ops.Set c) w p form widths found = inl ((Decides-eqb w 8).0 widths)
-form-width _ w p form widths found = width-from_test w widths
-
-extended : (m w : ℕ) → (is_width w && (is_width m && nat_lt m w)) ≡ true → IsWidth m × (m < w)
-extended m w h =
-    let parts = both_true (is_width m) (nat_lt m w) (both_true _ _ h).1 in (width-from_test m parts.0, ltb-true m w parts.1)
+form-width : (op : Op) (vex : Bool) (v w : ℕ) (p : Form → Bool) (form : Form) → IsNamed op v w → find p (forms op vex w) ≡ Some form → HasWidth (family_of op) w
+unfolding IsNamed IsWidened
+form-width (ops.Cmov c) vex v w p form named found = inr (wide-cases w (found_only_wide (is_wide w) p (two (Readable w) (Register w)) form found))
+form-width (ops.Vector op) vex v w p form named found = vector-width op w
+form-width ops.Imul vex v w p form named found = width-of_named v w (inr (wide-cases v named.0)) named.1
+form-width ops.Lea vex v w p form named found = width-of_named v w (inr (inr (long-width v named.0))) named.1
+form-width (ops.Movzx m) vex v w p form named found = width-of_named v w (widened m v named.0).1 named.1
+form-width (ops.Movsx m) vex v w p form named found = width-of_named v w (signed-widened m v named.0).1 named.1
+form-width (ops.Set c) vex v w p form named found = width-of_named v w (inl ((Decides-eqb v 8).0 named.0)) named.1
+form-width ops.Mov vex v w p form named found = width-of_named v w (suffix-width v named.0) named.1
+form-width ops.Add vex v w p form named found = width-of_named v w (suffix-width v named.0) named.1
+form-width ops.Sub vex v w p form named found = width-of_named v w (suffix-width v named.0) named.1
+form-width ops.Cmp vex v w p form named found = width-of_named v w (suffix-width v named.0) named.1
+form-width ops.Test vex v w p form named found = width-of_named v w (suffix-width v named.0) named.1
+form-width ops.And vex v w p form named found = width-of_named v w (suffix-width v named.0) named.1
+form-width ops.Or vex v w p form named found = width-of_named v w (suffix-width v named.0) named.1
+form-width ops.Xor vex v w p form named found = width-of_named v w (suffix-width v named.0) named.1
+form-width ops.Inc vex v w p form named found = width-of_named v w (suffix-width v named.0) named.1
+form-width ops.Dec vex v w p form named found = width-of_named v w (suffix-width v named.0) named.1
+form-width ops.Neg vex v w p form named found = width-of_named v w (suffix-width v named.0) named.1
+form-width ops.Not vex v w p form named found = width-of_named v w (suffix-width v named.0) named.1
+form-width ops.Shl vex v w p form named found = width-of_named v w (suffix-width v named.0) named.1
+form-width ops.Shr vex v w p form named found = width-of_named v w (suffix-width v named.0) named.1
+form-width ops.Sar vex v w p form named found = width-of_named v w (suffix-width v named.0) named.1
+form-width _ vex v w p form named found = width-of_named v w (quad-width v named.0) named.1
 
 -- operands
 
@@ -159,18 +245,23 @@ lea-target i taken =
 
 -- what a row needs, from the form that was found
 
-table-row : (op : Op) (i : Insn) (form : Form) → has_widths op i.w ≡ true → find (takes i.args) (forms op i.w) ≡ Some form → numbers_fit i.args form ≡ true
+widened-to : (m v w : ℕ) → IsWidened m v → (v ≡ 0) ⊎ (w ≡ v) → IsWidth m × (m < w)
+unfolding IsWidened
+widened-to m v w wide e = (wide.0, subst (λ (x : ℕ). m < x) (sym (named-is v w wide.1 e)) wide.2)
+
+table-row : (op : Op) (i : Insn) (v : ℕ) (form : Form) → IsNamed op v i.w → find (takes i.args) (forms op i.vex i.w) ≡ Some form → numbers_fit i.args form ≡ true
     → HasRowOf op i
-unfolding has_widths
-table-row ops.Shl i form widths found fits = shift-count i (taken-by_one i (two (Count i.w) (Writable i.w)) form found fits)
-table-row ops.Shr i form widths found fits = shift-count i (taken-by_one i (two (Count i.w) (Writable i.w)) form found fits)
-table-row ops.Sar i form widths found fits = shift-count i (taken-by_one i (two (Count i.w) (Writable i.w)) form found fits)
-table-row ops.Lea i form widths found fits = lea-target i (taken-by_one i (two Address (Register i.w)) form found fits)
-table-row (ops.Movzx m) i form widths found fits = extended m i.w widths
-table-row (ops.Movsx m) i form widths found fits = extended m i.w widths
-table-row ops.Cltq i form widths found fits = (Decides-eqb i.w 64).0 widths
-table-row (ops.Set c) i form widths found fits = (Decides-eqb i.w 8).0 widths
-table-row _ i form widths found fits = tt
+unfolding IsNamed
+table-row ops.Shl i v form named found fits = shift-count i (taken-by_one i (two (Count i.w) (Writable i.w)) form found fits)
+table-row ops.Shr i v form named found fits = shift-count i (taken-by_one i (two (Count i.w) (Writable i.w)) form found fits)
+table-row ops.Sar i v form named found fits = shift-count i (taken-by_one i (two (Count i.w) (Writable i.w)) form found fits)
+table-row ops.Lea i v form named found fits = lea-target i (taken-by_one i (two Address (Register i.w)) form found fits)
+table-row (ops.Movzx m) i v form named found fits = widened-to m v i.w (widened m v named.0) named.1
+table-row (ops.Movsx m) i v form named found fits = widened-to m v i.w (signed-widened m v named.0) named.1
+table-row ops.Cltq i v form named found fits = named-is v i.w (quad-width v named.0) named.1 ∙ (Decides-eqb v 64).0 named.0
+table-row (ops.Set c) i v form named found fits = named-is v i.w (inl ((Decides-eqb v 8).0 named.0)) named.1 ∙ (Decides-eqb v 8).0 named.0
+table-row (ops.Vector op) i v form named found fits = vector-row op i.vex i.w (takes i.args) form named found
+table-row _ i v form named found fits = tt
 
 -- jumps
 
@@ -186,29 +277,33 @@ place_inside n Nothing kind inside = absurd (cc)
 jump-inside : (n : ℕ) (i : Insn) → IsTaken (one Label) i → AllByRecursion (IsInside n) i.args → jump_place (operand i 0) < n
 jump-inside n i taken inside = place_inside n (operand i 0) (kind_at i (one Label) 0 Label taken refl) (all_at (IsInside n) i.args 0 tt inside)
 
-table-jump : (n : ℕ) (op : Op) (i : Insn) (form : Form) → find (takes i.args) (forms op i.w) ≡ Some form → numbers_fit i.args form ≡ true
+table-jump : (n : ℕ) (op : Op) (i : Insn) (form : Form) → find (takes i.args) (forms op i.vex i.w) ≡ Some form → numbers_fit i.args form ≡ true
     → AllByRecursion (IsInside n) i.args → JumpsBelow n op i
 table-jump n (ops.Jump c) i form found fits inside = jump-inside n i (taken-by_one i (one Label) form found fits) inside
 table-jump n ops.Jmp i form found fits inside = jump-inside n i (taken-by_one i (one Label) form found fits) inside
 table-jump n _ i form found fits inside = tt
 
--- the form of an instruction of the table
-abbrev HasFound : Insn → Type 0
-HasFound i = (form : Form) × (form_of i ≡ Some form) × (numbers_fit i.args form ≡ true)
+-- an instruction of the table was made of its mnemonic's shape and its own operands
+table-made : (i : Insn) (t : IsTableInsn i) → IsMade t.shape i.args i.line i
+table-made i t = fitted-made t.shape i.args i.line i t.accepted
 
-table-form : (i : Insn) → IsTableInsn i → HasFound i
-table-form i t =
-    let judged = judged-ok _ (insn_of (shape_of i) i.args i.line) i t.accepted in subst HasFound judged.0 judged.1
+-- what its row needs
+insn-row : (i : Insn) → IsTableInsn i → HasRowOf i.op i
+insn-row i t =
+    let made = table-made i t in
+    let named = made-named t.shape i.args i.line i made in
+    table-row i.op i named.0 made.form named.1 made.taken made.numbers
 
 -- an instruction of the table can be run
 pub table-runnable : (n : ℕ) (i : Insn) → IsTableInsn i → AllByRecursion (IsInside n) i.args → IsRunnable n i
 table-runnable n i t inside =
-    let found = table-form i t in
+    let made = table-made i t in
+    let named = made-named t.shape i.args i.line i made in
     record {
-      width = form-width i.op i.w (takes i.args) found.0 (table-widths i t) found.1;
+      width = form-width i.op i.vex named.0 i.w (takes i.args) made.form named.1 made.taken;
       numbers = λ k. all_at HasRegisters i.args k tt t.registers;
-      row = table-row i.op i found.0 (table-widths i t) found.1 found.2;
-      jump = table-jump n i.op i found.0 found.1 found.2 inside;
+      row = insn-row i t;
+      jump = table-jump n i.op i made.form made.taken made.numbers inside;
     }
 
 -- A closed function can be run.
@@ -222,5 +317,4 @@ closed-runnable insns c = record {
 
 -- What `lea` writes is a register.
 pub lea_register : (i : Insn) → IsTableInsn i → i.op ≡ ops.Lea → IsGeneralRegister (target_operand ops.Lea i)
-lea_register i t e =
-    let found = table-form i t in subst (λ (op : Op). HasRowOf op i) e (table-row i.op i found.0 (table-widths i t) found.1 found.2)
+lea_register i t e = subst (λ (op : Op). HasRowOf op i) e (insn-row i t)

@@ -18,6 +18,7 @@ use Rattle.machine.specs.Runnable.{IsRunnableFunction, JumpsBelow}
 use Rattle.machine.specs.Step.{allows_at, after_change, at_place, step_where_known, free_at, free_step, goes, step_to, insn_step, jump_place, leads_to, step_of}
 use Rattle.machine.specs.Operands.{operand}
 use Rattle.runs.specs.Stepping.{StepsAs}
+use Rattle.machine.proofs.VectorFamilies.{no_vectors}
 use Rattle.runs.proofs.Guarding.{failed_stays}
 
 -- the step at a known instruction
@@ -43,6 +44,8 @@ not_leaving op kind f no_return no_jump is =
 jumps_within : (n : ℕ) (op : Op) (i : Insn) → (family_of op ≡ Jump) ⊎ (family_of op ≡ Branch) → JumpsBelow n op i → jump_place (operand i 0) < n
 jumps_within n (ops.Jump c) i f h = h
 jumps_within n ops.Jmp i f h = h
+jumps_within n (ops.Vector op) i (inl f) h = absurd (no_vectors op Jump tt f)
+jumps_within n (ops.Vector op) i (inr f) h = absurd (no_vectors op Branch tt f)
 jumps_within n _ i (inl f) h = cc
 jumps_within n _ i (inr f) h = cc
 

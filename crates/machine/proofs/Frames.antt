@@ -1,23 +1,26 @@
 -- What a step leaves as it was, and what a run does.
-use Rattle.std.proofs.Common.{◌≡◌, ◌⊎◌, inl, inr, ℕ, ◌+◌, ◌-◌, ◌/◌, ◌%◌, ◌^◌, ◌<◌, ◌≤◌, Bool, true, false, not, ◌&&◌, ◌||◌, nat_lt, List, [], ◌∷◌, slice_index, Option, refl, sym, ◌∙◌, ap, subst, arith}
+use Rattle.std.proofs.Common.{◌≡◌, ◌⊎◌, inl, inr, ℕ, ◌+◌, ◌-◌, ◌/◌, ◌%◌, ◌^◌, ◌<◌, ◌≤◌, Bool, true, false, not, ◌&&◌, ◌||◌, nat_lt, List, [], ◌∷◌, length, take, slice_index, Option, refl, sym, ◌∙◌, ap, subst, arith}
 use Rattle.std.specs.List.{list_all, list_any}
 use Rattle.std.proofs.lemmas.Bool.{and_from, and_parts, cond_both, lt-ltb, ltb-false, ltb-true, not-true, or_cases, or_left, or_right}
 use Rattle.align_base.specs.declared.op.Flags.{Flags}
+use Rattle.align_base.specs.declared.op.Op.{Op}
 use Rattle.align_base.specs.declared.op.Op.TheVariants as ops
+use Rattle.std.proofs.lemmas.List.{length-take}
 use Rattle.insn_table.specs.declared.insn.Insn.{Insn}
 use Rattle.insn_table.specs.declared.insn.Operand.{Operand}
 use Rattle.insn_table.specs.declared.insn.Operand.TheVariants.{Reg, Imm, Mem, Vec, Pool, Target, Nothing}
-use Rattle.insn_table.specs.Forms.{is_addressed}
+use Rattle.insn_table.specs.Classes.{is_addressed}
 use Rattle.insn_table.specs.Closed.{IsClosed}
 use Rattle.insn_table.specs.Table.{IsTableInsn}
 use Rattle.instruction_semantics.specs.Words.{bit}
 use Rattle.machine.specs.declared.operands.Family.{Family}
-use Rattle.machine.specs.declared.operands.Family.TheVariants.{Branch, Choice, Idle, Jump, Popping, Pushing, Return, Setting}
-use Rattle.machine.specs.Access.{Access, access_of, accesses, allows, allows_by, holds_access, is_allowed, is_on_stack, stack_pointer, writes}
+use Rattle.machine.specs.declared.operands.Family.TheVariants.{Address, Computing, Branch, Choice, Clearing, Idle, Jump, OnVectors, Popping, Pushing, Return, Setting}
+use Rattle.machine.specs.Access.{Access, access_of, accesses, allows, allows_by, are_aligned, holds_access, is_allowed, is_on_stack, stack_pointer, target_width, writes}
 use Rattle.machine.specs.Family.{family_of}
 use Rattle.machine.specs.Frame.{IsWritable, SameFrame, SameUnwritable, has_address, is_writable}
 use Rattle.machine.specs.Machine.{Machine, offset_from, stack_base}
-use Rattle.machine.specs.Memory.{with_word}
+use Rattle.machine.specs.Memory.{with_bytes, with_word}
+use Rattle.machine.specs.Vectors.{after_vectors, last_operand, vector_result, with_vector}
 use Rattle.machine.specs.Operands.{effective_address, operand, with_value}
 use Rattle.runs.specs.Run.{Step, Goes, run_of}
 use Rattle.runs.proofs.Guarding.{guarded-goes}
@@ -26,23 +29,23 @@ use Rattle.machine.specs.Step.{after_change, after_row, allows_at, allows_step, 
 use Rattle.machine.proofs.Families.{free-goes}
 use Rattle.machine.specs.declared.state.Region.{Region}
 use Rattle.runs.proofs.Runs.{run_keeps}
-use Rattle.machine.proofs.Writing.{row_allowed}
+use Rattle.machine.proofs.VectorFamilies.{IsOfWords, vectors_write, words_of, words_width}
+use Rattle.machine.proofs.Writing.{row_allowed, written_allowed}
 use Rattle.machine.proofs.Closed.{lea_register}
-use Rattle.machine.proofs.MemoryWords.{with_word-if}
+use Rattle.machine.proofs.MemoryWords.{with_word-if, written_past}
 
 -- the frame
 
--- registers, flags, memory and place are no part of the frame
-frame_with : {s : Machine} {regs : List ℕ} {flags : Flags} {memory : ℕ → ℕ} {place : ℕ}
-    → SameFrame s (record s { regs = regs; flags = flags; memory = memory; place = place })
-frame_with = record { entry = refl; regions = refl; stack = refl; vecs = refl }
+-- registers, flags, vectors, memory and place are no part of the frame
+frame_with : {s : Machine} {regs : List ℕ} {flags : Flags} {vecs : List (List ℕ)} {memory : ℕ → ℕ} {place : ℕ}
+    → SameFrame s (record s { regs = regs; flags = flags; vecs = vecs; memory = memory; place = place })
+frame_with = record { entry = refl; regions = refl; stack = refl }
 
 frame-joined : (s t u : Machine) → SameFrame s t → SameFrame t u → SameFrame s u
 frame-joined s t u f g = record {
   entry = g.entry ∙ f.entry;
   regions = g.regions ∙ f.regions;
   stack = g.stack ∙ f.stack;
-  vecs = g.vecs ∙ f.vecs;
 }
 
 write-frame : (w : ℕ) (s : Machine) (o : Operand) (word : ℕ) → SameFrame s (with_value w s o word)
@@ -58,6 +61,16 @@ row-frame pool i s cond =
     (λ reading. frame_with))
     frame_with
 
+vector-frame : (vex : Bool) (n : ℕ) (s : Machine) (o : Operand) (new : List ℕ) → SameFrame s (with_vector vex n s o new)
+vector-frame vex n s (Vec r v) new = frame_with
+vector-frame vex n s (Reg r v) new = frame_with
+vector-frame vex n s (Mem base index scale disp) new = frame_with
+vector-frame vex n s _ new = frame_with
+
+vectors-frame : (op : Op) (pool : List ℕ) (i : Insn) (s : Machine) → SameFrame s (after_vectors op pool i s)
+vectors-frame (ops.Vector op) pool i s = vector-frame i.vex (target_width i.op i.w / 8) s (last_operand i) (vector_result pool op i s)
+vectors-frame _ pool i s = frame_with
+
 change-frame : (kind : Family) (pool : List ℕ) (i : Insn) (s : Machine) (holds : Bool) → SameFrame s (after_change kind pool i s holds)
 change-frame Pushing pool i s holds = frame_with
 change-frame Popping pool i s holds = frame_with
@@ -65,11 +78,13 @@ change-frame Branch pool i s holds = frame_with
 change-frame Jump pool i s holds = frame_with
 change-frame Return pool i s holds = frame_with
 change-frame Idle pool i s holds = frame_with
+change-frame OnVectors pool i s holds = vectors-frame i.op pool i s
+change-frame Clearing pool i s holds = frame_with
 change-frame Choice pool i s holds = row-frame pool i s (bit holds)
 change-frame Setting pool i s holds = row-frame pool i s (bit holds)
 change-frame _ pool i s holds = row-frame pool i s 0
 
--- A free step changes registers, flags, memory and place alone,
+-- A free step changes registers, flags, vectors, memory and place alone,
 pub free_frame : (insns : List Insn) (pool : List ℕ) (s t : Machine) → free_step insns pool s ≡ Goes t → SameFrame s t
 free_frame insns pool s t h =
     let by = free-goes insns pool s t h in
@@ -141,6 +156,38 @@ write-kept w s (Pool n) word h = λ x. inl refl
 write-kept w s (Target n) word h = λ x. inl refl
 write-kept w s Nothing word h = λ x. inl refl
 
+-- bytes that are written, at most n, where each of n bytes may be written
+bytes-kept : (s : Machine) (at n x : ℕ) (bytes : List ℕ) → length bytes ≤ n → (nat_lt (offset_from at x) n ≡ true → IsWritable s x)
+    → (with_bytes s.memory at bytes x ≡ s.memory x) ⊎ IsWritable s x
+bytes-kept s at n x bytes few h = elim (nat_lt (offset_from at x) n) as (λ v. nat_lt (offset_from at x) n ≡ v → (with_bytes s.memory at bytes x ≡ s.memory x) ⊎ IsWritable s x) [
+  | true ↦ (λ near. inr (h near))
+  | false ↦ (λ far. let past : n ≤ offset_from at x = ltb-false (offset_from at x) n far in inl (written_past s.memory at bytes x (omega (arith, few, past))))
+] refl
+
+-- what is written to memory of a vector, where the access is allowed
+vector-kept : (vex : Bool) (w : ℕ) (s : Machine) (o : Operand) (new : List ℕ) → list_all (is_allowed s) (access_of s o w true) ≡ true
+    → SameUnwritable s (with_vector vex (w / 8) s o new)
+vector-kept vex w s (Mem base index scale disp) new h = λ x.
+    let at = effective_address s.regs base index scale disp in
+    let below : at ≤ 2 ^ 64 = omega arith in
+    let holds = (and_parts (is_allowed s (written_from at (w / 8))) true h).0 in
+    let few : length (take (w / 8) new) ≤ w / 8 = omega (arith, length-take (w / 8) new) in
+    bytes-kept s at (w / 8) x (take (w / 8) new) few
+    (λ k.
+    or_left (list_any (λ r. r.write && has_address x r) s.regions) (nat_lt (offset_from (stack_base s) x) s.stack)
+    (region-writable s.regions at (w / 8) x below holds k))
+vector-kept vex w s (Reg n width) new h = λ x. inl refl
+vector-kept vex w s (Imm v) new h = λ x. inl refl
+vector-kept vex w s (Vec n width) new h = λ x. inl refl
+vector-kept vex w s (Pool n) new h = λ x. inl refl
+vector-kept vex w s (Target n) new h = λ x. inl refl
+vector-kept vex w s Nothing new h = λ x. inl refl
+
+vectors-kept : (op : Op) (pool : List ℕ) (i : Insn) (s : Machine) → list_all (is_allowed s) (access_of s (last_operand i) (target_width i.op i.w) true) ≡ true
+    → SameUnwritable s (after_vectors op pool i s)
+vectors-kept (ops.Vector op) pool i s h = vector-kept i.vex (target_width i.op i.w) s (last_operand i) (vector_result pool op i s) h
+vectors-kept _ pool i s h = λ x. inl refl
+
 -- What an instruction writes is tested: `lea` makes no access, so its target is no memory.
 abbrev IsTested : Insn → Type 0
 IsTested i = i.op ≡ ops.Lea → is_addressed (target_operand ops.Lea i) ≡ false
@@ -152,11 +199,11 @@ register-not_addressed _ is = absurd is
 table-tested : (i : Insn) → IsTableInsn i → IsTested i
 table-tested i t e = register-not_addressed (target_operand ops.Lea i) (lea_register i t e)
 
-row-kept : (pool : List ℕ) (i : Insn) (s : Machine) (cond : ℕ) → IsTested i → list_all (is_allowed s) (accesses (family_of i.op) i s) ≡ true
+row-kept : (pool : List ℕ) (i : Insn) (s : Machine) (cond : ℕ) → IsOfWords (family_of i.op) → IsTested i → list_all (is_allowed s) (accesses (family_of i.op) i s) ≡ true
     → SameUnwritable s (after_row pool i s cond)
-row-kept pool i s cond lea h =
+row-kept pool i s cond words lea h =
     cond_both (writes i.op) (with_value i.w s (target_operand i.op i) (result_of pool i s cond)) s (SameUnwritable s)
-    (λ writing. write-kept i.w s (target_operand i.op i) (result_of pool i s cond) (row_allowed i.op i s writing lea h))
+    (λ writing. write-kept i.w s (target_operand i.op i) (result_of pool i s cond) (row_allowed i.op i s writing (words_width i.op i.w words) words lea h))
     (λ reading x. inl refl)
 
 push-kept : (s : Machine) (word : ℕ) → is_on_stack s (offset_from 8 (stack_pointer s)) ≡ true
@@ -177,9 +224,13 @@ changed-kept Branch pool i s holds f lea h = λ x. inl refl
 changed-kept Jump pool i s holds f lea h = λ x. inl refl
 changed-kept Return pool i s holds f lea h = λ x. inl refl
 changed-kept Idle pool i s holds f lea h = λ x. inl refl
-changed-kept Choice pool i s holds f lea h = row-kept pool i s (bit holds) lea (rw f h)
-changed-kept Setting pool i s holds f lea h = row-kept pool i s (bit holds) lea (rw f h)
-changed-kept _ pool i s holds f lea h = row-kept pool i s 0 lea (rw f h)
+changed-kept Clearing pool i s holds f lea h = λ x. inl refl
+changed-kept OnVectors pool i s holds f lea h =
+    vectors-kept i.op pool i s (written_allowed i s (vectors_write i.op f) (and_parts (list_all (is_allowed s) (accesses OnVectors i s)) (are_aligned i s) h).0)
+changed-kept Choice pool i s holds f lea h = row-kept pool i s (bit holds) (words_of i Choice f tt) lea (rw f h)
+changed-kept Setting pool i s holds f lea h = row-kept pool i s (bit holds) (words_of i Setting f tt) lea (rw f h)
+changed-kept Computing pool i s holds f lea h = row-kept pool i s 0 (words_of i Computing f tt) lea (rw f h)
+changed-kept Address pool i s holds f lea h = row-kept pool i s 0 (words_of i Address f tt) lea (rw f h)
 
 -- Where its tests hold, a free step writes no byte but in a region that may be written and among the declared stack bytes,
 pub free_memory : (insns : List Insn) (pool : List ℕ) (s t : Machine) → IsClosed insns → allows_step insns s ≡ true → free_step insns pool s ≡ Goes t

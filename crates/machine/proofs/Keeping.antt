@@ -37,6 +37,13 @@ computed-below _ old value h k = h
 pub set-below : (regs : List ℕ) (r v n : ℕ) → r < length regs → v < 2 ^ 64 → slice_index regs n < 2 ^ 64 → slice_index (slice_set regs r v) n < 2 ^ 64
 set-below regs r v n within small h = grind (arith, common_steps)
 
+-- sixteen registers stay so where one is set
+pub set_regs : (regs : List ℕ) (r v : ℕ) → r < 16 → v < 2 ^ 64 → AreRegs regs → AreRegs (slice_set regs r v)
+set_regs regs r v within small all = record {
+  sixteen = simp length-set all.sixteen;
+  below = λ n. set-below regs r v n (omega (arith, all.sixteen)) small (all.below n);
+}
+
 written-regs : (o : Operand) (regs : List ℕ) (v : ℕ) → IsRegister o → AreRegs regs → v < 2 ^ 64 → AreRegs (regs_with regs o v)
 written-regs (Reg r w) regs v is all small = record {
   sixteen = simp length-set all.sixteen;

@@ -37,13 +37,13 @@ kept_by_places old new entry stack regions spans h = record {
   small = rw stack h.small;
 }
 
--- a State after a change of registers, of flags, of the bytes of its spans or of its place
-pub held_by_places : (old new : Kept) → length new.regs ≡ 16 → new.entry ≡ old.entry → new.vecs ≡ old.vecs → new.stack ≡ old.stack
+-- a State after a change of registers, of flags, of vectors, of the bytes of its spans or of its place
+pub held_by_places : (old new : Kept) → length new.regs ≡ 16 → new.entry ≡ old.entry → length new.vecs ≡ 16 → new.stack ≡ old.stack
     → new.regions ≡ old.regions → places new.spans ≡ places old.spans → IsHeld old → IsHeld new
 held_by_places old new regs entry vecs stack regions spans h = record {
   regs = regs;
   entry = ap (λ (xs : List ℕ). length xs) entry ∙ h.entry;
-  vecs = ap (λ (xs : List (List ℕ)). length xs) vecs ∙ h.vecs;
+  vecs = vecs;
   kept = kept_by_places old new entry stack regions spans h.kept;
 }
 

@@ -16,5 +16,11 @@ pub mod RowValues
 pub mod Closed
 pub mod StateRanges
 pub mod Targets
+pub mod VectorBytes
+pub mod VectorFamilies
+pub mod VectorFrames
+pub mod VectorRanges
+pub mod VectorTable
+pub mod VectorWrites
 pub mod Words
 pub mod Writing

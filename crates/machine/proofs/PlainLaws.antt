@@ -13,7 +13,7 @@ use Rattle.machine.specs.Step.{step_of}
 use Rattle.machine.specs.Straight.{regs_through, OnlyReturns}
 use Rattle.runs.specs.declared.ends.RunEnd.TheVariants.{Returned, Faulted, Unset}
 use Rattle.machine.proofs.Keeping.{moves_keep_regs}
-use Rattle.machine.proofs.PlainRuns.{plain-returns, state_through, through_frame, through-memory, through-regs}
+use Rattle.machine.proofs.PlainRuns.{plain-returns, state_through, through_frame, through-memory, through-vectors, through-regs}
 use Rattle.runs.proofs.Returning.{returned_only, never_faulted, never_unset, returning_equivalent}
 
 -- the end of a plain function from a start state
@@ -92,6 +92,7 @@ plain-only_returns insns pool p s start = record {
   regs = subst AreRegs (sym (plain_end-regs pool p s)) (moves_keep_regs p.moves s.regs p.each start.start.valid.regs);
   after = plain_end-regs pool p s ∙ ap (λ (moves : List Insn). regs_through moves s.regs) (plain_moves insns p);
   frame = through_frame pool p.moves s;
+  vecs = through-vectors pool p.moves s;
   memory = through-memory pool p.moves s;
   once = λ n i h. (plain-returns_only insns pool p s start n i h).1;
   no_fault = plain_never_faults insns pool p s start;

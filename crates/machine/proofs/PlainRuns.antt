@@ -66,10 +66,15 @@ through-memory pool (i ∷ is) s = through-memory pool is (moved pool i s)
 
 -- plain moves leave the frame
 pub through_frame : (pool : List ℕ) (moves : List Insn) (s : Machine) → SameFrame s (state_through pool moves s)
-through_frame pool [] s = record { entry = refl; regions = refl; stack = refl; vecs = refl }
+through_frame pool [] s = record { entry = refl; regions = refl; stack = refl }
 through_frame pool (i ∷ is) s =
     let rest = through_frame pool is (moved pool i s) in
-    record { entry = rest.entry; regions = rest.regions; stack = rest.stack; vecs = rest.vecs }
+    record { entry = rest.entry; regions = rest.regions; stack = rest.stack }
+
+-- plain moves leave the vectors
+pub through-vectors : (pool : List ℕ) (moves : List Insn) (s : Machine) → (state_through pool moves s).vecs ≡ s.vecs
+through-vectors pool [] s = refl
+through-vectors pool (i ∷ is) s = through-vectors pool is (moved pool i s)
 
 -- A run that comes to moves goes through them.
 pub through_moves : (insns : List Insn) (pool : List ℕ) (s t : Machine) (moves rest : List Insn) (k : ℕ)

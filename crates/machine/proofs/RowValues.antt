@@ -12,6 +12,7 @@ use Rattle.instruction_semantics.specs.Rows.{Computes, computed, row_expr}
 use Rattle.instruction_semantics.specs.FlagRules.{flags_after}
 use Rattle.machine.specs.declared.operands.Family.TheVariants.{Computing, Address, Choice, Setting}
 use Rattle.machine.specs.Access.{source_width}
+use Rattle.machine.proofs.VectorFamilies.{no_vectors, not_a_width, row_width}
 use Rattle.machine.specs.Family.{family_of}
 use Rattle.machine.specs.Machine.{Machine}
 use Rattle.machine.specs.Operands.{address_of, operand, value_of}
@@ -47,6 +48,7 @@ pub source_is_width : (op : Op) (i : Insn) → IsWidth i.w → HasRowOf op i →
 source_is_width (ops.Movzx m) i w row = row.0
 source_is_width (ops.Movsx m) i w row = row.0
 source_is_width ops.Cltq i w row = inr (inr (inl refl))
+source_is_width (ops.Vector op) i w row = absurd (not_a_width i.w (row_width op i.w row) w)
 source_is_width _ i w row = w
 
 below_own_power : (n : ℕ) → n < 2 ^ n
@@ -81,7 +83,7 @@ row_computes pool ops.Pop i s a b f w row low high e = cc
 row_computes pool ops.Ret i s a b f w row low high e = cc
 row_computes pool ops.Nop i s a b f w row low high e = cc
 row_computes pool ops.Endbr64 i s a b f w row low high e = cc
-row_computes pool (ops.Vector v) i s a b f w row low high e = cc
+row_computes pool (ops.Vector v) i s a b f w row low high e = absurd (no_vectors v Computing tt f)
 row_computes pool _ i s a b f w row low high e = (positive i.w w, narrow i.w w, low, high)
 
 -- a row by its result and its flags
@@ -112,6 +114,9 @@ pub flags_stay : (op : Op) (w a b : ℕ) (f : Flags) → (family_of op ≡ Addre
 flags_stay ops.Lea w a b f h = lea_flags w a b f
 flags_stay (ops.Cmov c) w a b f h = cmov_flags c w a b f
 flags_stay (ops.Set c) w a b f h = set_flags c w a b f
+flags_stay (ops.Vector op) w a b f (inl e) = absurd (no_vectors op Address tt e)
+flags_stay (ops.Vector op) w a b f (inr (inl e)) = absurd (no_vectors op Choice tt e)
+flags_stay (ops.Vector op) w a b f (inr (inr e)) = absurd (no_vectors op Setting tt e)
 flags_stay _ w a b f (inl e) = cc
 flags_stay _ w a b f (inr (inl e)) = cc
 flags_stay _ w a b f (inr (inr e)) = cc
@@ -127,16 +132,19 @@ kept_after pool i s word cond f w =
 -- the value of the row of `lea`
 pub address_result : (op : Op) (w a b : ℕ) → family_of op ≡ Address → value (row_leaves a b 0) (row_expr op w b) ≡ b % 2 ^ w
 address_result ops.Lea w a b f = ap (λ (x : ℕ). x % 2 ^ w) (div-one b)
+address_result (ops.Vector op) w a b f = absurd (no_vectors op Address tt f)
 address_result _ w a b f = cc
 
 -- the source of `lea` is its address
 pub address_source : (pool : List ℕ) (op : Op) (i : Insn) (s : Machine) → family_of op ≡ Address → source_value pool op i s ≡ address_of s.regs (operand i 0)
 address_source pool ops.Lea i s f = refl
+address_source pool (ops.Vector op) i s f = absurd (no_vectors op Address tt f)
 address_source pool _ i s f = cc
 
 -- `lea` writes a register
 pub address_row : (op : Op) (i : Insn) → family_of op ≡ Address → HasRowOf op i → IsGeneralRegister (target_operand op i)
 address_row ops.Lea i f row = row
+address_row (ops.Vector op) i f row = absurd (no_vectors op Address tt f)
 address_row _ i f row = cc
 
 -- the state after `lea`
@@ -149,11 +157,13 @@ address_after pool i s word f w = kept_after pool i s word 0 (inl f)
 pub choice_result : (op : Op) (w a b : ℕ) (holds : Bool) → family_of op ≡ Choice → value (row_leaves a b (bit holds)) (row_expr op w b) ≡ (if holds then b else a)
 choice_result (ops.Cmov c) w a b true f = refl
 choice_result (ops.Cmov c) w a b false f = refl
+choice_result (ops.Vector op) w a b holds f = absurd (no_vectors op Choice tt f)
 choice_result _ w a b holds f = cc
 
 -- the source of a move by condition
 pub choice_source : (pool : List ℕ) (op : Op) (i : Insn) (s : Machine) → family_of op ≡ Choice → source_value pool op i s ≡ value_of pool (source_width op i.w) s (source_operand op i)
 choice_source pool (ops.Cmov c) i s f = refl
+choice_source pool (ops.Vector op) i s f = absurd (no_vectors op Choice tt f)
 choice_source pool _ i s f = cc
 
 -- the state after a move by condition
@@ -169,6 +179,7 @@ choice_after pool i s a b word holds f da sb w =
 pub setting_result : (op : Op) (w a b : ℕ) (holds : Bool) → family_of op ≡ Setting → value (row_leaves a b (bit holds)) (row_expr op w b) ≡ bit holds
 setting_result (ops.Set c) w a b true f = refl
 setting_result (ops.Set c) w a b false f = refl
+setting_result (ops.Vector op) w a b holds f = absurd (no_vectors op Setting tt f)
 setting_result _ w a b holds f = cc
 
 -- the state after a byte set by condition

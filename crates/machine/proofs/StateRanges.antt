@@ -1,6 +1,5 @@
 -- A step keeps each value of a state in its range.
 use Rattle.std.proofs.Common.{◌≡◌, ℕ, zero, suc, ◌/◌, ◌%◌, ◌^◌, ◌<◌, nat_lt, Bool, true, false, inl, inr, List, length, slice_index, slice_set, refl, sym, ◌∙◌, subst, arith, lit<}
-use Rattle.std.proofs.Math.ListN.{length-set}
 use Rattle.std.proofs.Math.Nat.{pow-suc}
 use Rattle.std.proofs.lemmas.Bool.{cond_both}
 use Rattle.std.proofs.lemmas.Nat.{mod_below, pow_pos}
@@ -15,7 +14,7 @@ use Rattle.instruction_semantics.specs.Rows.{computed, row_expr}
 use Rattle.instruction_semantics.specs.Words.{bit}
 use Rattle.instruction_semantics.proofs.WordLaws.{computed_below}
 use Rattle.machine.specs.declared.operands.Family.{Family}
-use Rattle.machine.specs.declared.operands.Family.TheVariants.{Computing, Address, Choice, Setting, Branch, Jump, Pushing, Popping, Return, Idle}
+use Rattle.machine.specs.declared.operands.Family.TheVariants.{Computing, OnVectors, Clearing, Address, Choice, Setting, Branch, Jump, Pushing, Popping, Return, Idle}
 use Rattle.machine.specs.Access.{source_width, stack_pointer, writes}
 use Rattle.machine.specs.Family.{family_of}
 use Rattle.machine.specs.Machine.{AreRegs, IsState, Machine, address_plus, offset_from}
@@ -23,15 +22,17 @@ use Rattle.machine.specs.Memory.{with_word, word_at}
 use Rattle.machine.specs.Operands.{effective_address, register_after, operand, value_of, with_value}
 use Rattle.runs.specs.Run.{Step, Goes, run_of}
 use Rattle.runs.proofs.Guarding.{guarded-goes}
-use Rattle.machine.specs.Runnable.{IsRunnable, IsRunnableFunction, IsWidth}
+use Rattle.machine.specs.Runnable.{HasWidth, IsRunnable, IsRunnableFunction, IsWidth}
 use Rattle.machine.specs.Step.{after_row, allows_step, after_change, free_step, destination_operand, destination_value, register_number, result_of, row_leaves, source_operand, source_value, step_of, target_operand}
 use Rattle.machine.proofs.Bytewise.{byte_in_front}
 use Rattle.machine.proofs.Families.{free-goes}
-use Rattle.machine.proofs.Keeping.{set-below}
+use Rattle.machine.proofs.Keeping.{set_regs}
 use Rattle.machine.proofs.MemoryWords.{with_word-if, word_at-suc}
 use Rattle.machine.proofs.RowValues.{address_result, choice_result, choice_source, computes, row_computes, setting_result, source_is_width, source_read}
 use Rattle.runs.proofs.Runs.{run_keeps}
 use Rattle.machine.proofs.Targets.{target_numbers}
+use Rattle.machine.proofs.VectorFamilies.{no_vectors}
+use Rattle.machine.proofs.VectorRanges.{cleared_ranged, vectors_ranged}
 
 -- each of a pool is a byte
 abbrev IsPool : List ℕ → Type 0
@@ -60,12 +61,6 @@ value_below pool w s (Pool n) h bytes state =
 value_below pool w s (Vec n width) h bytes state = pow_pos w
 value_below pool w s (Target n) h bytes state = pow_pos w
 value_below pool w s Nothing h bytes state = pow_pos w
-
-set_regs : (regs : List ℕ) (r v : ℕ) → r < 16 → v < 2 ^ 64 → AreRegs regs → AreRegs (slice_set regs r v)
-set_regs regs r v within small all = record {
-  sixteen = simp length-set all.sixteen;
-  below = λ n. set-below regs r v n (omega (arith, all.sixteen)) small (all.below n);
-}
 
 merged_at : (w v old word : ℕ) → w ≡ v → (word < 2 ^ v → register_after v old word < 2 ^ 64) → word < 2 ^ w → register_after w old word < 2 ^ 64
 merged_at w v old word e h k = subst (λ (u : ℕ). word < 2 ^ u → register_after u old word < 2 ^ 64) (sym e) h k
@@ -102,12 +97,16 @@ write_ranged w s (Pool n) word h low small state = state
 write_ranged w s (Target n) word h low small state = state
 write_ranged w s Nothing word h low small state = state
 
+-- an instruction of a family on words has the width of a word
+width_in : (i : Insn) (kind : Family) (n : ℕ) → family_of i.op ≡ kind → IsRunnable n i → HasWidth kind i.w
+width_in i kind n f r = subst (λ (k : Family). HasWidth k i.w) f r.width
+
 -- a row whose result has its width
-row_ranged : (pool : List ℕ) (n : ℕ) (i : Insn) (s : Machine) (cond : ℕ) → IsRunnable n i → result_of pool i s cond < 2 ^ i.w → IsState s
+row_ranged : (pool : List ℕ) (n : ℕ) (i : Insn) (s : Machine) (cond : ℕ) → IsWidth i.w → IsRunnable n i → result_of pool i s cond < 2 ^ i.w → IsState s
     → IsState (after_row pool i s cond)
-row_ranged pool n i s cond r small state =
+row_ranged pool n i s cond width r small state =
     let t = cond_both (writes i.op) (with_value i.w s (target_operand i.op i) (result_of pool i s cond)) s IsState
-    (λ writing. write_ranged i.w s (target_operand i.op i) (result_of pool i s cond) r.width (target_numbers i.op i r.numbers) small state)
+    (λ writing. write_ranged i.w s (target_operand i.op i) (result_of pool i s cond) width (target_numbers i.op i r.numbers) small state)
     (λ reading. state)
     in
     record { regs = t.regs; entry = t.entry; vecs = t.vecs; memory = t.memory }
@@ -116,11 +115,12 @@ row_ranged pool n i s cond r small state =
 computed_result : (pool : List ℕ) (n : ℕ) (i : Insn) (s : Machine) → family_of i.op ≡ Computing → IsRunnable n i → IsPool pool → IsState s
     → result_of pool i s 0 < 2 ^ i.w
 computed_result pool n i s f r bytes state =
+    let width : IsWidth i.w = width_in i Computing n f r in
     let a = destination_value pool i s in
     let b = value_of pool (source_width i.op i.w) s (source_operand i.op i) in
-    let low : a < 2 ^ i.w = value_below pool i.w s (destination_operand i.op i) r.width bytes state in
-    let high : b < 2 ^ source_width i.op i.w = value_below pool (source_width i.op i.w) s (source_operand i.op i) (source_is_width i.op i r.width r.row) bytes state in
-    let small : computed i.op i.w a b < 2 ^ i.w = computed_below i.op i.w a b (row_computes pool i.op i s a b f r.width r.row low high refl) in
+    let low : a < 2 ^ i.w = value_below pool i.w s (destination_operand i.op i) width bytes state in
+    let high : b < 2 ^ source_width i.op i.w = value_below pool (source_width i.op i.w) s (source_operand i.op i) (source_is_width i.op i width r.row) bytes state in
+    let small : computed i.op i.w a b < 2 ^ i.w = computed_below i.op i.w a b (row_computes pool i.op i s a b f width r.row low high refl) in
     let same : computed i.op i.w a b ≡ result_of pool i s 0 = sym (computes i.op i.w 0 a b f) ∙ (λ j. value (row_leaves a (sym (source_read pool i.op i s f) j) 0) (row_expr i.op i.w (sym (source_read pool i.op i s f) j))) in
     subst (λ (x : ℕ). x < 2 ^ i.w) same small
 
@@ -131,18 +131,20 @@ address_below pool i s f =
 
 choice_width : (op : Op) (w : ℕ) → family_of op ≡ Choice → source_width op w ≡ w
 choice_width (ops.Cmov c) w f = refl
+choice_width (ops.Vector op) w f = absurd (no_vectors op Choice tt f)
 choice_width _ w f = cc
 
 choice_below : (pool : List ℕ) (n : ℕ) (i : Insn) (s : Machine) (holds : Bool) → family_of i.op ≡ Choice → IsRunnable n i → IsPool pool → IsState s
     → result_of pool i s (bit holds) < 2 ^ i.w
 choice_below pool n i s holds f r bytes state =
+    let width : IsWidth i.w = width_in i Choice n f r in
     let b = source_value pool i.op i s in
     let high : b < 2 ^ i.w = subst (λ (x : ℕ). x < 2 ^ i.w) (sym (choice_source pool i.op i s f))
     (subst (λ (w : ℕ). value_of pool (source_width i.op i.w) s (source_operand i.op i) < 2 ^ w) (choice_width i.op i.w f)
-    (value_below pool (source_width i.op i.w) s (source_operand i.op i) (source_is_width i.op i r.width r.row) bytes state)) in
+    (value_below pool (source_width i.op i.w) s (source_operand i.op i) (source_is_width i.op i width r.row) bytes state)) in
     subst (λ (x : ℕ). x < 2 ^ i.w) (sym (choice_result i.op i.w (destination_value pool i s) b holds f))
     (cond_both holds b (destination_value pool i s) (λ (x : ℕ). x < 2 ^ i.w) (λ moving. high)
-    (λ staying. value_below pool i.w s (destination_operand i.op i) r.width bytes state))
+    (λ staying. value_below pool i.w s (destination_operand i.op i) width bytes state))
 
 bit_small : (b : Bool) → bit b < 2
 bit_small true = lit< tt
@@ -164,10 +166,12 @@ number_below _ h = lit< tt
 
 changed_ranged : (kind : Family) (pool : List ℕ) (n : ℕ) (i : Insn) (s : Machine) (holds : Bool) → family_of i.op ≡ kind → IsRunnable n i → IsPool pool → IsState s
     → IsState (after_change kind pool i s holds)
-changed_ranged Computing pool n i s holds f r bytes state = row_ranged pool n i s 0 r (computed_result pool n i s f r bytes state) state
-changed_ranged Address pool n i s holds f r bytes state = row_ranged pool n i s 0 r (address_below pool i s f) state
-changed_ranged Choice pool n i s holds f r bytes state = row_ranged pool n i s (bit holds) r (choice_below pool n i s holds f r bytes state) state
-changed_ranged Setting pool n i s holds f r bytes state = row_ranged pool n i s (bit holds) r (setting_below pool i s holds f r.width) state
+changed_ranged Computing pool n i s holds f r bytes state = row_ranged pool n i s 0 (width_in i Computing n f r) r (computed_result pool n i s f r bytes state) state
+changed_ranged Address pool n i s holds f r bytes state = row_ranged pool n i s 0 (width_in i Address n f r) r (address_below pool i s f) state
+changed_ranged Choice pool n i s holds f r bytes state = row_ranged pool n i s (bit holds) (width_in i Choice n f r) r (choice_below pool n i s holds f r bytes state) state
+changed_ranged Setting pool n i s holds f r bytes state = row_ranged pool n i s (bit holds) (width_in i Setting n f r) r (setting_below pool i s holds f (width_in i Setting n f r)) state
+changed_ranged OnVectors pool n i s holds f r bytes state = vectors_ranged i.op pool n i s refl f r state
+changed_ranged Clearing pool n i s holds f r bytes state = cleared_ranged s state
 changed_ranged Branch pool n i s holds f r bytes state = state
 changed_ranged Jump pool n i s holds f r bytes state = state
 changed_ranged Return pool n i s holds f r bytes state = state

@@ -55,19 +55,18 @@ outside_offset : (s l at n x : ℕ) → (x < s) ⊎ (s + l ≤ x) → s ≤ at �
 outside_offset s l at n x out from to ends small =
     elim out [ inl below ↦ omega (arith, offset_below at x) | inr above ↦ omega (arith, offset_above at x) ]
 
--- what a write to a span's list makes of its bytes
-pub span_written : (spans : List Span) (i at n word : ℕ) (span new : Span) (x : ℕ) → AreOrdered 0 spans → slice_get spans i ≡ Some span
+-- what a change of n bytes of a span's list, byte k to f k, makes of its bytes
+pub span_changed : (spans : List Span) (i at n : ℕ) (f : ℕ → ℕ) (span new : Span) (x : ℕ) → AreOrdered 0 spans → slice_get spans i ≡ Some span
     → span.at ≤ at → at + n ≤ span.at + length span.bytes.items
     → new.at ≡ span.at → length new.bytes.items ≡ length span.bytes.items
-    → ((y : ℕ) → slice_index new.bytes.items y ≡ (if nat_le (at - span.at) y && nat_lt (y - (at - span.at)) n then word / 256 ^ (y - (at - span.at)) % 256 else slice_index span.bytes.items y))
-    → x < 2 ^ 64 → byte_of (slice_set spans i new) x ≡ with_word (byte_of spans) at n word x
-span_written spans i at n word span new x o e from to same len bytes small =
+    → ((y : ℕ) → slice_index new.bytes.items y ≡ (if nat_le (at - span.at) y && nat_lt (y - (at - span.at)) n then f (y - (at - span.at)) else slice_index span.bytes.items y))
+    → x < 2 ^ 64 → byte_of (slice_set spans i new) x ≡ (if nat_lt (offset_from at x) n then f (offset_from at x) else byte_of spans x)
+span_changed spans i at n f span new x o e from to same len bytes small =
     let ends : span.at + length span.bytes.items ≤ 2 ^ 64 = order_ends 0 spans i span o e in
-    let f : ℕ → ℕ = λ k. word / 256 ^ k % 256 in
     let y : ℕ = x - span.at in
-    let regs_with : ℕ = if nat_lt (offset_from at x) n then f (offset_from at x) else byte_of spans x in
+    let changed : ℕ = if nat_lt (offset_from at x) n then f (offset_from at x) else byte_of spans x in
     byte_written 0 spans i span new x o e same len
-    ∙ elim (spans_address span x) as (λ v. spans_address span x ≡ v → (if v then slice_index new.bytes.items y else byte_of spans x) ≡ regs_with) [
+    ∙ elim (spans_address span x) as (λ v. spans_address span x ≡ v → (if v then slice_index new.bytes.items y else byte_of spans x) ≡ changed) [
       | true ↦ (λ t.
           let here = addressed_from span x t in
           let low : span.at ≤ x = here.0 in
@@ -76,4 +75,13 @@ span_written spans i at n word span new x o e from to same len bytes small =
       | false ↦ (λ t.
           outside_choice f (byte_of spans x) (offset_from at x) n (outside_offset span.at (length span.bytes.items) at n x (not_addressed_from span x t) from to ends small))
     ] refl
+
+-- what a write of a word to a span's list makes of its bytes
+pub span_written : (spans : List Span) (i at n word : ℕ) (span new : Span) (x : ℕ) → AreOrdered 0 spans → slice_get spans i ≡ Some span
+    → span.at ≤ at → at + n ≤ span.at + length span.bytes.items
+    → new.at ≡ span.at → length new.bytes.items ≡ length span.bytes.items
+    → ((y : ℕ) → slice_index new.bytes.items y ≡ (if nat_le (at - span.at) y && nat_lt (y - (at - span.at)) n then word / 256 ^ (y - (at - span.at)) % 256 else slice_index span.bytes.items y))
+    → x < 2 ^ 64 → byte_of (slice_set spans i new) x ≡ with_word (byte_of spans) at n word x
+span_written spans i at n word span new x o e from to same len bytes small =
+    span_changed spans i at n (λ k. word / 256 ^ k % 256) span new x o e from to same len bytes small
     ∙ sym (with_word-if (byte_of spans) at n word x)

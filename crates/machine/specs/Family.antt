@@ -4,9 +4,16 @@ use Rattle.align_base.specs.declared.op.Cond.{Cond}
 use Rattle.align_base.specs.declared.op.Flags.{Flags}
 use Rattle.align_base.specs.declared.op.Op.{Op}
 use Rattle.align_base.specs.declared.op.Op.TheVariants as ops
+use Rattle.align_base.specs.declared.vector_op.VectorOp.{VectorOp}
+use Rattle.align_base.specs.declared.vector_op.VectorOp.TheVariants.{Vzeroupper}
 use Rattle.instruction_semantics.specs.Conditions.{cond_of}
 use Rattle.machine.specs.declared.operands.Family.{Family}
-use Rattle.machine.specs.declared.operands.Family.TheVariants.{Computing, Address, Choice, Setting, Branch, Jump, Pushing, Popping, Return, Idle}
+use Rattle.machine.specs.declared.operands.Family.TheVariants.{Computing, OnVectors, Clearing, Address, Choice, Setting, Branch, Jump, Pushing, Popping, Return, Idle}
+
+-- the family of an operation on vectors: `vzeroupper` has no operands
+abbrev pub vector_family : VectorOp → Family
+vector_family Vzeroupper = Clearing
+vector_family _ = OnVectors
 
 -- the family of an operation
 abbrev pub family_of : Op → Family
@@ -20,8 +27,7 @@ family_of ops.Pop = Popping
 family_of ops.Ret = Return
 family_of ops.Nop = Idle
 family_of ops.Endbr64 = Idle
--- no form of the table has operations on vectors yet
-family_of (ops.Vector op) = Idle
+family_of (ops.Vector op) = vector_family op
 family_of _ = Computing
 
 -- the condition that an operation reads

@@ -14,4 +14,6 @@ pub mod Spanned
 pub mod Spans
 pub mod Start
 pub mod Step
+pub mod VectorAccess
+pub mod Vectors
 pub mod Straight

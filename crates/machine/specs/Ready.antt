@@ -9,7 +9,7 @@ use Rattle.machine.specs.Family.{family_of}
 use Rattle.machine.specs.Kept.{Kept, pure_of}
 use Rattle.machine.specs.Machine.{Machine}
 use Rattle.machine.specs.Operands.{operand, with_value}
-use Rattle.machine.specs.Runnable.{HasRowOf, IsWidth}
+use Rattle.machine.specs.Runnable.{HasRowOf, HasWidth}
 use Rattle.machine.specs.Step.{target_operand}
 
 -- the state after a row that has given this result and these flags
@@ -19,7 +19,7 @@ finished_row i s result flags =
 
 -- an instruction of this family, whose tests hold
 pub record IsReady (kind : Family) (i : Insn) (k : Kept) : Type 0 where
-  pub width : IsWidth i.w
+  pub width : HasWidth kind i.w
   pub numbers : (n : ℕ) → HasRegisters (operand i n)
   pub row : HasRowOf i.op i
   pub family : family_of i.op ≡ kind

@@ -2,17 +2,34 @@
 use Rattle.std.specs.Prelude.{◌≡◌, ◌⊎◌, ℕ, ◌-◌, ◌^◌, ◌<◌, List, length, Some, slice_get}
 use Rattle.align_base.specs.declared.op.Op.{Op}
 use Rattle.align_base.specs.declared.op.Op.TheVariants as ops
+use Rattle.align_base.specs.declared.vector_op.VectorOp.{VectorOp}
+use Rattle.align_base.specs.declared.vector_op.VectorOp.TheVariants.{Vzeroupper}
 use Rattle.insn_table.specs.declared.insn.Insn.{Insn}
 use Rattle.insn_table.specs.declared.insn.Operand.{Operand}
 use Rattle.insn_table.specs.declared.insn.Operand.TheVariants.{Reg, Imm}
 use Rattle.insn_table.specs.Closed.{IsLeaving}
 use Rattle.insn_table.specs.Table.{HasRegisters}
+use Rattle.vector_semantics.specs.VectorRows.{IsVectorRow, IsVectorWidth}
+use Rattle.machine.specs.declared.operands.Family.{Family}
+use Rattle.machine.specs.declared.operands.Family.TheVariants.{Clearing, OnVectors}
+use Rattle.machine.specs.Family.{family_of}
 use Rattle.machine.specs.Operands.{operand}
 use Rattle.machine.specs.Step.{jump_place, target_operand}
 
 -- the width of a general register or of a part of it
 abbrev pub IsWidth : ℕ → Type 0
 IsWidth w = (w ≡ 8) ⊎ ((w ≡ 16) ⊎ ((w ≡ 32) ⊎ (w ≡ 64)))
+
+-- the width of an instruction of a family is one of a general register, but of those on vectors
+abbrev pub HasWidth : Family → ℕ → Type 0
+HasWidth OnVectors w = Unit {0}
+HasWidth Clearing w = Unit {0}
+HasWidth _ w = IsWidth w
+
+-- the table has the operation on vectors of w bits, with the widths of its lanes; `vzeroupper` has none
+abbrev pub HasVectorRow : VectorOp → ℕ → Type 0
+HasVectorRow Vzeroupper w = IsVectorWidth w
+HasVectorRow op w = IsVectorRow op w
 
 -- the operand is a general register, of any width
 abbrev pub IsGeneralRegister : Operand → Type 0
@@ -36,6 +53,7 @@ HasRowOf (ops.Movzx m) i = IsWidth m × (m < i.w)
 HasRowOf (ops.Movsx m) i = IsWidth m × (m < i.w)
 HasRowOf ops.Cltq i = i.w ≡ 64
 HasRowOf (ops.Set c) i = i.w ≡ 8
+HasRowOf (ops.Vector op) i = HasVectorRow op i.w
 HasRowOf _ i = Unit {0}
 
 -- a jump's place is below the number of instructions
@@ -46,7 +64,7 @@ JumpsBelow n _ i = Unit {0}
 
 -- the instruction can be run among n instructions
 pub record IsRunnable (n : ℕ) (i : Insn) : Type 0 where
-  pub width : IsWidth i.w
+  pub width : HasWidth (family_of i.op) i.w
   pub numbers : (k : ℕ) → HasRegisters (operand i k)
   pub row : HasRowOf i.op i
   pub jump : JumpsBelow n i.op i

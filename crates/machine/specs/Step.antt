@@ -15,12 +15,13 @@ use Rattle.instruction_semantics.specs.Exprs.{value}
 use Rattle.instruction_semantics.specs.Rows.{row_expr}
 use Rattle.instruction_semantics.specs.FlagRules.{flags_after}
 use Rattle.machine.specs.declared.operands.Family.{Family}
-use Rattle.machine.specs.declared.operands.Family.TheVariants.{Branch, Choice, Idle, Jump, Popping, Pushing, Return, Setting}
+use Rattle.machine.specs.declared.operands.Family.TheVariants.{Branch, Choice, Clearing, Idle, Jump, OnVectors, Popping, Pushing, Return, Setting}
 use Rattle.machine.specs.Access.{allows, arity, source_width, stack_pointer, writes}
 use Rattle.machine.specs.Family.{family_of, holds_of}
 use Rattle.machine.specs.Machine.{Machine, address_plus, offset_from}
 use Rattle.machine.specs.Memory.{with_word, word_at}
 use Rattle.machine.specs.Operands.{address_of, operand, value_of, with_value}
+use Rattle.machine.specs.Vectors.{after_clearing, after_vectors}
 use Rattle.runs.specs.Run.{Step, Goes, Returns, Faults, MeetsUnset, guarded, tested}
 
 -- The operands of a row by their number: of one operand it is the destination; of two the second is the destination and
@@ -102,8 +103,8 @@ after_pop i s =
     let read = word_at s.memory (stack_pointer s) 8 in
     record s { regs = slice_set (slice_set s.regs 4 above) (register_number (operand i 0)) read }
 
--- how an instruction of a family changes registers, flags and memory, where its condition, if it reads one, has this
--- value
+-- how an instruction of a family changes registers, flags, vectors and memory, where its condition, if it reads one, has
+-- this value
 abbrev pub after_change : Family → List ℕ → Insn → Machine → Bool → Machine
 after_change Pushing pool i s holds = after_push i s
 after_change Popping pool i s holds = after_pop i s
@@ -111,6 +112,8 @@ after_change Branch pool i s holds = s
 after_change Jump pool i s holds = s
 after_change Return pool i s holds = s
 after_change Idle pool i s holds = s
+after_change OnVectors pool i s holds = after_vectors i.op pool i s
+after_change Clearing pool i s holds = after_clearing s
 after_change Choice pool i s holds = after_row pool i s (bit holds)
 after_change Setting pool i s holds = after_row pool i s (bit holds)
 after_change _ pool i s holds = after_row pool i s 0

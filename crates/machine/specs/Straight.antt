@@ -57,6 +57,7 @@ pub record OnlyReturns (insns : List Insn) (pool : List ℕ) (s : Machine) : Typ
   pub regs : AreRegs end.regs
   pub after : end.regs ≡ regs_through (take (length insns - 1) insns) s.regs
   pub frame : SameFrame s end
+  pub vecs : end.vecs ≡ s.vecs
   pub memory : end.memory ≡ s.memory
   pub once : (n i : ℕ) → end_of (step_of insns pool) s n ≡ Returned i → i ≡ length insns
   pub no_fault : (n i : ℕ) → end_of (step_of insns pool) s n ≢ Faulted i

@@ -1,11 +1,12 @@
 //! Laws of steps, runs and memory, as contracts of functions that do nothing.
-ghost use Rattle.std.specs.Prelude.{◌≡◌, ℕ, ◌+◌, ◌*◌, ◌%◌, ◌^◌, ◌<◌, ◌≤◌, true, false, List, Option, length, max, slice_index};
+ghost use Rattle.std.specs.Prelude.{◌≡◌, ℕ, ◌+◌, ◌*◌, ◌%◌, ◌^◌, ◌<◌, ◌≤◌, true, false, List, Option, Some, length, max, slice_get, slice_index};
+ghost use Rattle.std.specs.List.{list_any};
 ghost use Rattle.insn_table.specs.declared.insn.Insn.{Insn};
 ghost use Rattle.insn_table.specs.Plain.{IsPlain};
 ghost use Rattle.insn_table.specs.Closed.{IsClosed};
 ghost use Rattle.machine.specs.Difference.{SamePlainEnd};
 ghost use Rattle.runs.specs.Equivalent.{AreEquivalent};
-ghost use Rattle.machine.specs.Frame.{SameFrame, SameUnwritable};
+ghost use Rattle.machine.specs.Frame.{SameFrame, SameUnwritable, SameVector, writes_vector};
 ghost use Rattle.machine.specs.Machine.{IsPlainStart, IsState, Machine, offset_from};
 ghost use Rattle.machine.specs.Memory.{bytes_at, bytes_of_number, number_of_bytes, with_bytes};
 ghost use Rattle.runs.specs.Path.{Arrived, Back, FallsAtFirst, FallsWithin, Fell, Through, allowed_along, way};
@@ -82,10 +83,11 @@ pub fn memory_law()
 {}
 
 /// The law of what a step and a run leave as it was, with any instructions and pool: the entry
-/// registers, the regions, the stack range and the vectors, under the tests and also freely. In a
-/// closed function a step and a run under the tests, and a free step whose tests hold, leave each byte
-/// of the memory that neither lies in a region that may be written nor among the declared stack bytes.
-/// It does nothing.
+/// registers, the regions and the stack range, under the tests and also freely; a step leaves each
+/// vector register that its instruction does not write, and a run each that no instruction of the
+/// function writes. In a closed function a step and a run under the tests, and a free step whose tests
+/// hold, leave each byte of the memory that neither lies in a region that may be written nor among the
+/// declared stack bytes. It does nothing.
 pub fn step_frame_law()
     ensures step { (insns : List Insn) (pool : List ℕ) (s t : Machine) → step_of insns pool s ≡ Goes t → SameFrame s t }
     ensures step_memory { (insns : List Insn) (pool : List ℕ) (s t : Machine) → IsClosed insns
@@ -100,6 +102,14 @@ pub fn step_frame_law()
         → allows_step insns s ≡ true → free_step insns pool s ≡ Goes t → SameUnwritable s t }
     ensures free_run { (insns : List Insn) (pool : List ℕ) (s : Machine) (n : ℕ)
         → SameFrame s (run_of (free_step insns pool) s n).0 }
+    ensures step_vectors { (insns : List Insn) (pool : List ℕ) (s t : Machine) (i : Insn) (r : ℕ)
+        → slice_get insns s.place ≡ Some i → writes_vector r i ≡ false → step_of insns pool s ≡ Goes t → SameVector r s t }
+    ensures run_vectors { (insns : List Insn) (pool : List ℕ) (s : Machine) (n r : ℕ)
+        → list_any (writes_vector r) insns ≡ false → SameVector r s (run_of (step_of insns pool) s n).0 }
+    ensures free_step_vectors { (insns : List Insn) (pool : List ℕ) (s t : Machine) (i : Insn) (r : ℕ)
+        → slice_get insns s.place ≡ Some i → writes_vector r i ≡ false → free_step insns pool s ≡ Goes t → SameVector r s t }
+    ensures free_run_vectors { (insns : List Insn) (pool : List ℕ) (s : Machine) (n r : ℕ)
+        → list_any (writes_vector r) insns ≡ false → SameVector r s (run_of (free_step insns pool) s n).0 }
 {}
 
 /// The law that a step and a run of a closed function, whose pool holds bytes, keep the values of a

@@ -20,6 +20,8 @@ mod operands;
 mod ranges;
 mod spans;
 mod state;
+mod vector_access;
+mod vectors;
 
 pub use difference::{Difference, difference_law};
 pub use laws::{

@@ -1,14 +1,16 @@
 //! What the code reads of an instruction: its operands, their widths, its family and its condition.
-ghost use Rattle.std.specs.Prelude.{◌≡◌, ◌+◌, ◌%◌, ◌*◌, ◌^◌, ◌<◌};
-ghost use Rattle.insn_table.specs.Forms.{is_nothing};
+ghost use Rattle.std.specs.Prelude.{◌≡◌, ◌+◌, ◌%◌, ◌*◌, ◌^◌, ◌<◌, ◌≤◌};
+ghost use Rattle.insn_table.specs.Classes.{is_nothing};
 ghost use Rattle.machine.specs.Access as access;
 ghost use Rattle.machine.specs.Family.{condition_of, family_of};
 ghost use Rattle.machine.specs.Operands.{displacement};
 ghost use Rattle.machine.specs.Operands as operands;
 ghost use Rattle.machine.specs.Runnable.{IsWidth};
 ghost use Rattle.machine.specs.Step as steps;
+ghost use Rattle.machine.specs.Vectors as vectors;
 
-use align_base::Cond;
+use crate::vector_access::{vector_source_width, vector_target_width};
+use align_base::{Cond, VectorOp};
 use insn_table::{Insn, Op, Operand};
 
 /// The operations that a step runs alike.
@@ -28,6 +30,10 @@ pub enum Family {
     Pushing,
     Popping,
     Return,
+    /// A row over vectors.
+    OnVectors,
+    /// `vzeroupper`.
+    Clearing,
     /// No effect but the next place.
     Idle,
 }
@@ -47,8 +53,8 @@ pub fn op_family(op: Op) -> Family
         Op::Ret => Family::Return,
         Op::Nop => Family::Idle,
         Op::Endbr64 => Family::Idle,
-        // No form of the table has them yet.
-        Op::Vector(_) => Family::Idle,
+        Op::Vector(VectorOp::Vzeroupper) => Family::Clearing,
+        Op::Vector(_) => Family::OnVectors,
         _ => Family::Computing,
     }
 }
@@ -94,7 +100,10 @@ pub fn arity(insn: &Insn) -> usize
     if is_nothing(operand(insn, 1)) {
         return 1;
     }
-    if is_nothing(operand(insn, 2)) { 2 } else { 3 }
+    if is_nothing(operand(insn, 2)) {
+        return 2;
+    }
+    if is_nothing(operand(insn, 3)) { 3 } else { 4 }
 }
 
 /// Whether an operation writes its last operand.
@@ -108,7 +117,7 @@ pub fn writes(op: Op) -> bool
     }
 }
 
-/// The width of an operation's source.
+/// The width of each operand but the last.
 pub fn source_width(op: Op, w: u32) -> u32
     ensures { result ≡ access.source_width op w }
 {
@@ -116,18 +125,30 @@ pub fn source_width(op: Op, w: u32) -> u32
         Op::Movzx(from) => from,
         Op::Movsx(from) => from,
         Op::Cltq => 32,
+        Op::Vector(op) => vector_source_width(op, w),
+        _ => w,
+    }
+}
+
+/// The width of the last operand.
+pub fn target_width(op: Op, w: u32) -> u32
+    ensures { result ≡ access.target_width op w }
+{
+    match op {
+        Op::Vector(op) => vector_target_width(op, w),
         _ => w,
     }
 }
 
 /// The width of operand `k`.
 pub fn width_at(insn: &Insn, k: usize) -> u32
+    requires { k < 4 }
     ensures { result ≡ access.width_at insn.now k }
 {
-    if k == 0 && arity(insn) >= 2 {
-        source_width(insn.op, insn.w)
+    if k + 1 == arity(insn) {
+        target_width(insn.op, insn.w)
     } else {
-        insn.w
+        source_width(insn.op, insn.w)
     }
 }
 
@@ -162,6 +183,24 @@ pub fn source(insn: &Insn) -> Operand
     match insn.op {
         Op::Cltq => Operand::Reg { n: 0, w: 32 },
         _ => operand(insn, 0),
+    }
+}
+
+/// The operand that is written, the last one.
+pub fn last_operand(insn: &Insn) -> Operand
+    ensures { result ≡ vectors.last_operand insn.now }
+{
+    operand(insn, arity(insn).saturating_sub(1))
+}
+
+/// The place of the first operand that is no immediate.
+pub fn source_place(insn: &Insn) -> usize
+    ensures value { result ≡ vectors.source_place insn.now }
+    ensures small { result ≤ 1 }
+{
+    match operand(insn, 0) {
+        Operand::Imm(_) => 1,
+        _ => 0,
     }
 }
 

@@ -65,7 +65,7 @@ fn word_by_bytes(spans: &[Span], at: u64, n: u32) -> u64
 }
 
 /// The byte at a place of a list, and 0 past its end.
-fn byte_in(bytes: &[u8], at: usize) -> u8
+pub fn byte_in(bytes: &[u8], at: usize) -> u8
     ensures { result ≡ slice_index bytes.now at }
 {
     if at < bytes.len() { bytes[at] } else { 0 }
@@ -100,7 +100,7 @@ fn has_bytes(span: &Span, at: u64, n: u64) -> bool
 }
 
 /// The number of the span that has the `n` bytes from an address on, where one has them all.
-fn span_with(spans: &[Span], at: u64, n: u64) -> Option<usize>
+pub fn span_with(spans: &[Span], at: u64, n: u64) -> Option<usize>
     ensures some { IfSome result (λ i. HasBytes spans.now i at n) }
     ensures none { IfNone result (n ≡ 1 → is_spanned spans.now at ≡ false) }
 {
@@ -143,7 +143,7 @@ fn put_bytes(spans: &mut Vec<Span>, at: u64, n: u32, word: u64)
 
 /// Writes one byte.
 #[tactic(auto, using(crate::proofs::MemoryWords::memory_words))]
-fn put_byte(spans: &mut Vec<Span>, at: u64, byte: u8)
+pub fn put_byte(spans: &mut Vec<Span>, at: u64, byte: u8)
     requires ordered { AreOrdered 0 spans.old.items }
     requires spanned { is_spanned spans.old.items at ≡ true }
     ensures bytes { (x : ℕ) → x < 2 ^ 64

@@ -16,13 +16,17 @@ ghost use Rattle.insn_table.specs.Closed.{IsClosed};
 ghost use Rattle.insn_table.specs.Table.{HasRegisters};
 ghost use Rattle.machine.specs.Kept.{AreOrdered, IsKept, pure_of};
 ghost use Rattle.machine.specs.Start.{IsCopy, kept_start};
+ghost use Rattle.machine.specs.Vectors as vectors;
 
 use crate::operands::{
-    Family, arity, condition, destination, displacement_of, jump_place, low_bits, op_family,
-    operand, register_after, register_number, source, source_width, target, width_at, writes,
+    Family, arity, condition, destination, displacement_of, jump_place, last_operand, low_bits,
+    op_family, operand, register_after, register_number, source, source_place, source_width,
+    target, target_width, width_at, writes,
 };
 use crate::ranges::{are_regs, are_vecs, spans_hold_bytes};
 use crate::spans::{byte_at, copy_spans, put_word, word_in, word_of};
+use crate::vector_access::alignment;
+use crate::vectors::{clear_above, control, load, load_in, low_word, store, written, zeros};
 use align_base::{Flags, Memory};
 use insn_table::{Function, Insn, Op, Operand};
 use lane_ops::{flags, scalar};
@@ -30,6 +34,7 @@ use lane_views::Bytes32;
 use runs::{RunEnd, StepEnd};
 use std::alloc::Global;
 use std::marker::Model;
+use vector_ops::vector;
 
 /// A region of memory: `len` bytes from `base` on, which may be read, and written where `write` is.
 #[derive(Clone, Copy, Debug, PartialEq, Eq)]
@@ -243,7 +248,7 @@ impl State {
 
     /// Whether operand `k` may be accessed, if it is in memory.
     fn allows_operand(&self, insn: &Insn, k: usize) -> bool
-        requires small { k < 3 }
+        requires small { k < 4 }
         requires numbers { (k : ℕ) → HasRegisters (operands.operand insn.now k) }
         ensures { result ≡ list_all (access.is_allowed (pure_of self.now))
             (access.access_at insn.now (pure_of self.now) k) }
@@ -265,7 +270,10 @@ impl State {
         ensures { result ≡ list_all (access.is_allowed (pure_of self.now))
             (access.operand_accesses insn.now (pure_of self.now)) }
     {
-        self.allows_operand(insn, 0) && self.allows_operand(insn, 1) && self.allows_operand(insn, 2)
+        self.allows_operand(insn, 0)
+            && self.allows_operand(insn, 1)
+            && self.allows_operand(insn, 2)
+            && self.allows_operand(insn, 3)
     }
 
     /// Whether eight bytes lie among the declared stack bytes.
@@ -286,7 +294,33 @@ impl State {
             Family::Popping => self.is_on_stack(self.regs[4]),
             Family::Return => self.regs[4] == self.entry[4],
             Family::Address => true,
+            Family::OnVectors => self.allows_operands(insn) && self.are_aligned(insn),
             _ => self.allows_operands(insn),
+        }
+    }
+
+    /// Whether each operand in memory stands at an address that the operation takes.
+    fn are_aligned(&self, insn: &Insn) -> bool
+        requires numbers { (k : ℕ) → HasRegisters (operands.operand insn.now k) }
+        ensures { result ≡ access.are_aligned insn.now (pure_of self.now) }
+    {
+        self.aligned_at(insn, 0)
+            && self.aligned_at(insn, 1)
+            && self.aligned_at(insn, 2)
+            && self.aligned_at(insn, 3)
+    }
+
+    /// Whether operand `k` stands so, if it is in memory.
+    fn aligned_at(&self, insn: &Insn, k: usize) -> bool
+        requires numbers { (k : ℕ) → HasRegisters (operands.operand insn.now k) }
+        ensures { result ≡ access.aligned_at insn.now (pure_of self.now) k }
+    {
+        let n = alignment(insn.op, insn.vex, insn.w);
+        let operand = operand(insn, k);
+        match operand {
+            Operand::Mem { .. } => self.address(operand) % n == 0,
+            Operand::Pool(at) => at as u64 % n == 0,
+            _ => true,
         }
     }
 }
@@ -437,8 +471,90 @@ impl State {
         self.regs[n as usize] = value;
     }
 
-    /// How an instruction whose tests hold changes registers, flags and memory, where its condition has
-    /// this value.
+    /// The law that what is kept of a state is so.
+    fn is_kept(&self)
+        ensures { IsKept self.now }
+    {
+        // a field is read, so that the state is looked into
+        let _stack = self.stack;
+    }
+
+    /// What an operand of `w` bits gives as a vector.
+    fn vector(&self, pool: &[u8], w: u32, operand: Operand) -> Bytes32
+        requires width { w ≤ 256 }
+        requires numbers { HasRegisters operand }
+        ensures { result.bytes ≡ vectors.operand_vector pool.now w (pure_of self.now) operand }
+    {
+        match operand {
+            Operand::Vec { n, .. } => self.vecs[n as usize],
+            Operand::Reg { n, .. } => low_word(self.regs[n as usize]),
+            Operand::Mem { .. } => load(&self.spans, self.address(operand), w / 8),
+            Operand::Pool(at) => load_in(pool, at as usize, w / 8),
+            // No other operand is read as a vector.
+            _ => zeros(),
+        }
+    }
+
+    /// What an operand that is a vector register holds.
+    fn register_vector(&self, operand: Operand) -> Bytes32
+        requires { HasRegisters operand }
+        ensures { result.bytes ≡ vectors.register_vector (pure_of self.now) operand }
+    {
+        match operand {
+            Operand::Vec { n, .. } => self.vecs[n as usize],
+            _ => zeros(),
+        }
+    }
+
+    /// Writes a vector to an operand: to memory its `w` low bits, to a general register 64 bits.
+    fn put_vector(&mut self, vex: bool, w: u32, target: Operand, vector: &Bytes32)
+        requires width { w ≤ 256 }
+        requires numbers { HasRegisters target }
+        requires spanned { IsSpanned self.old w target }
+        ensures { pure_of self.new ≡ vectors.with_vector vex (w / 8) (pure_of self.old) target vector.now.bytes }
+    {
+        match target {
+            Operand::Vec { n: r, .. } => {
+                let new = written(vex, &self.vecs[r as usize], vector);
+                self.vecs[r as usize] = new;
+            }
+            Operand::Reg { n: r, .. } => self.regs[r as usize] = vector.lane(64, 0),
+            Operand::Mem { .. } => {
+                let at = self.address(target);
+                store(&mut self.spans, at, &vector.bytes[..w as usize / 8]);
+            }
+            _ => {}
+        }
+    }
+
+    /// A row over vectors.
+    fn compute_vectors(&mut self, pool: &[u8], insn: &Insn)
+        requires { IsReady Family.OnVectors insn.now self.old }
+        ensures { pure_of self.new ≡ vectors.after_vectors insn.now.op pool.now insn.now (pure_of self.old) }
+    {
+        let Op::Vector(op) = insn.op else {
+            return;
+        };
+        let place = source_place(insn);
+        let first = self.register_vector(operand(insn, place + 1));
+        let second = self.vector(pool, source_width(insn.op, insn.w), operand(insn, place));
+        let result = vector(op, insn.w, control(operand(insn, 0)), &first, &second);
+        // what the target's bytes need
+        self.is_kept();
+        let width = target_width(insn.op, insn.w);
+        let target = last_operand(insn);
+        self.put_vector(insn.vex, width, target, &result);
+    }
+
+    /// `vzeroupper`.
+    fn clear_uppers(&mut self)
+        ensures { pure_of self.new ≡ vectors.after_clearing (pure_of self.old) }
+    {
+        clear_above(&mut self.vecs);
+    }
+
+    /// How an instruction whose tests hold changes registers, flags, vectors and memory, where its
+    /// condition has this value.
     fn change(&mut self, family: Family, pool: &[u8], insn: &Insn, holds: bool)
         requires { IsReady family insn.now self.old }
         ensures { pure_of self.new ≡ steps.after_change family pool.now insn.now (pure_of self.old) holds }
@@ -450,6 +566,8 @@ impl State {
             Family::Setting => self.set(pool, insn, holds),
             Family::Pushing => self.push(insn),
             Family::Popping => self.pop(insn),
+            Family::OnVectors => self.compute_vectors(pool, insn),
+            Family::Clearing => self.clear_uppers(),
             Family::Branch | Family::Jump | Family::Return | Family::Idle => {}
         }
     }

@@ -1,7 +1,7 @@
 //! Environments: what nodes read.
 ghost use Rattle.std.specs.Prelude.{◌≡◌, ℕ, ◌%◌, ◌<◌, ◌^◌, ◌≤◌, length, slice_index};
 ghost use Rattle.align_base.specs.declared.status.Side.{Side};
-ghost use Rattle.node_values.specs.Environments.{environment_of, first_byte, side_number};
+ghost use Rattle.node_values.specs.Environments.{environment_of, first_byte, listed_bytes, side_number};
 ghost use Rattle.node_values.specs.Nodes.{AreWordWidths, IsNode, node_width};
 ghost use Rattle.node_values.specs.Values.{node_value};
 
@@ -18,11 +18,21 @@ pub struct Env {
     pub regs: [[u64; 16]; 2],
     pub entry: [u64; 16],
     pub vecs: [[Bytes32; 16]; 2],
-    pub mem: [Items<(u64, u8)>; 2],
+    pub mem: (Items<(u64, u8)>, Items<(u64, u8)>),
     pub probe: u64,
 }
 
 impl Env {
+    /// The bytes that are listed of a side's memory.
+    fn listed(&self, side: Side) -> &[(u64, u8)]
+        ensures { result.now ≡ listed_bytes self.now side }
+    {
+        match side {
+            Side::Left => self.mem.0.as_slice(),
+            Side::Right => self.mem.1.as_slice(),
+        }
+    }
+
     /// The value of a node, from the widths and the values of the nodes before it.
     pub fn value(&self, node: Node, widths: &[u32], values: &[u64]) -> u64
         requires node { IsNode (slice_index widths.now) (length widths.now) node }
@@ -36,9 +46,7 @@ impl Env {
             Node::VecByte { side, n, i } => {
                 self.vecs[side_place(side)][n as usize].bytes[i as usize] as u64
             }
-            Node::Start { side, at } => {
-                byte_at(self.mem[side_place(side)].as_slice(), item(values, at.0)) as u64
-            }
+            Node::Start { side, at } => byte_at(self.listed(side), item(values, at.0)) as u64,
             Node::Probe => low_64(self.probe),
             _ => {
                 let [x, y, z] = arguments(node);

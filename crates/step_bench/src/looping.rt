@@ -1,4 +1,4 @@
-//! The loop that is run.
+//! The loops that are run.
 ghost use Rattle.std.specs.Prelude.{◌≡◌, IfOk, codes};
 ghost use Rattle.insn_table.specs.Closed.{IsClosed};
 ghost use Rattle.step_bench.specs.Loop as loops;
@@ -44,4 +44,34 @@ pub fn endless_loop(alloc: Global) -> Result<Function, BuildError>
     builder.push(b"incb", &[register(1, 8)])?;
     builder.push(b"jmp", &[Operand::Target(0)])?;
     builder.finish(Word::new(alloc, b"loop")?)
+}
+
+/// A loop over vectors, for ever:
+///
+///     movdqu (%rdi), %xmm1
+///     paddd %xmm1, %xmm0
+///     addq $16, %rcx
+///     cmpq $1, %rcx
+///     jne to the first
+///     jmp to the first
+pub fn vector_loop(alloc: Global) -> Result<Function, BuildError>
+    ensures name { IfOk result (λ f. f.name ≡ codes "vectors") }
+    ensures closed { IfOk result (λ f. IsClosed f.insns) }
+{
+    let source = Operand::Mem {
+        base: Some(7),
+        index: None,
+        scale: 1,
+        disp: 0,
+    };
+    let (sum, loaded) = (Operand::Vec { n: 0, w: 128 }, Operand::Vec { n: 1, w: 128 });
+    let first = Operand::Target(0);
+    let mut builder = FunctionBuilder::new(alloc);
+    builder.push(b"movdqu", &[source, loaded])?;
+    builder.push(b"paddd", &[loaded, sum])?;
+    builder.push(b"addq", &[Operand::Imm(16), register(1, 64)])?;
+    builder.push(b"cmpq", &[Operand::Imm(1), register(1, 64)])?;
+    builder.push(b"jne", &[first])?;
+    builder.push(b"jmp", &[first])?;
+    builder.finish(Word::new(alloc, b"vectors")?)
 }

@@ -1,5 +1,5 @@
 //! Each public call of `insn_table` once, and the kinds and ranges of operands, in tables.
-use align_base::Word;
+use align_base::{LaneOp, LaneWidth, MoveOp, VectorOp, Word};
 use insn_table::{
     BuildError, Cond, Function, FunctionBuilder, Insn, Misfit, Op, Operand, Shape, Statement,
     assemble_function, fits, look_up,
@@ -105,6 +105,141 @@ fn forms_take_their_kinds(rt: HostRuntime) {
         assert_eq!(rt;
             misfit(op, w, first, second, third),
             Some(Misfit::BadOperand)
+        );
+    }
+}
+
+/// A vector register of `w` bits.
+fn vector(w: u32) -> Operand {
+    Operand::Vec { n: 3, w }
+}
+
+fn lanes(op: LaneOp) -> Op {
+    Op::Vector(VectorOp::Lanewise(op))
+}
+
+fn moving(op: MoveOp) -> Op {
+    Op::Vector(VectorOp::Moving(op))
+}
+
+#[test]
+fn mnemonics_name_shapes_of_vectors(rt: HostRuntime) {
+    for (mnemonic, op, w, vex) in [
+        (
+            b"paddd".as_slice(),
+            lanes(LaneOp::Padd(LaneWidth::Doubleword)),
+            128,
+            false,
+        ),
+        (
+            b"vpaddd".as_slice(),
+            lanes(LaneOp::Padd(LaneWidth::Doubleword)),
+            0,
+            true,
+        ),
+        (b"andnps".as_slice(), lanes(LaneOp::Pandn), 128, false),
+        (b"vxorps".as_slice(), lanes(LaneOp::Pxor), 0, true),
+        (
+            b"vpmulld".as_slice(),
+            lanes(LaneOp::Pmull(LaneWidth::Doubleword)),
+            0,
+            true,
+        ),
+        (b"vmovq".as_slice(), moving(MoveOp::Movq), 0, true),
+        (b"movq".as_slice(), Op::Mov, 64, false),
+        (
+            b"vzeroupper".as_slice(),
+            Op::Vector(VectorOp::Vzeroupper),
+            256,
+            true,
+        ),
+    ] {
+        assert_eq!(rt; look_up(mnemonic), Some(Shape { op, w, vex }));
+    }
+    for mnemonic in [
+        b"pmulld".as_slice(),
+        b"pshufb".as_slice(),
+        b"vpmulq".as_slice(),
+        b"zeroupper".as_slice(),
+        b"vpermd".as_slice(),
+    ] {
+        assert_eq!(rt; look_up(mnemonic), None);
+    }
+}
+
+/// Why this operation on vectors, with VEX, doesn't take the operands: None where it does.
+fn misfit_with_vex(op: Op, args: [Operand; 4]) -> Option<Misfit> {
+    fits(
+        Shape {
+            op,
+            w: 0,
+            vex: true,
+        },
+        args,
+        7,
+    )
+    .err()
+}
+
+#[test]
+fn forms_with_vex_tell_their_width(rt: HostRuntime) {
+    let add = lanes(LaneOp::Padd(LaneWidth::Byte));
+    let (low, whole) = (vector(128), vector(256));
+    let one = Operand::Imm(1);
+    for (op, args) in [
+        (add, [low, low, low, NOTHING]),
+        (add, [MEMORY, whole, whole, NOTHING]),
+        (add, [POOL, whole, whole, NOTHING]),
+        (moving(MoveOp::Inserti128), [one, low, whole, whole]),
+        (moving(MoveOp::Extracti128), [one, whole, MEMORY, NOTHING]),
+        (moving(MoveOp::Movd), [register(32), low, NOTHING, NOTHING]),
+    ] {
+        assert_eq!(rt; misfit_with_vex(op, args), None);
+    }
+    for (op, args) in [
+        (add, [low, whole, whole, NOTHING]),
+        (add, [low, low, NOTHING, NOTHING]),
+        (add, [low, MEMORY, low, NOTHING]),
+        (moving(MoveOp::Inserti128), [one, low, low, low]),
+        (moving(MoveOp::Movd), [register(64), low, NOTHING, NOTHING]),
+        (moving(MoveOp::Permq), [one, low, low, NOTHING]),
+    ] {
+        assert_eq!(rt; misfit_with_vex(op, args), Some(Misfit::BadOperand));
+    }
+    let beyond = [Operand::Imm(256), low, low, NOTHING];
+    assert_eq!(rt;
+        misfit_with_vex(moving(MoveOp::Pshufd), beyond),
+        Some(Misfit::BadNumber)
+    );
+}
+
+#[test]
+fn a_quadword_moves_by_its_operands(rt: HostRuntime) {
+    let shape = Shape {
+        op: Op::Mov,
+        w: 64,
+        vex: false,
+    };
+    let args = [register(64), vector(128), NOTHING, NOTHING];
+    let moved = insn(moving(MoveOp::Movq), 128, args, 7);
+    assert_eq!(rt; fits(shape, args, 7), Ok(moved));
+    let args = [register(64), register(64), NOTHING, NOTHING];
+    assert_eq!(rt; fits(shape, args, 7), Ok(insn(Op::Mov, 64, args, 7)));
+}
+
+#[test]
+fn shapes_that_no_mnemonic_names_take_nothing(rt: HostRuntime) {
+    let args = [register(8), register(8), NOTHING, NOTHING];
+    for (op, w, vex) in [
+        (Op::Add, 8, true),
+        (Op::Imul, 8, false),
+        (Op::Mov, 0, false),
+        (lanes(LaneOp::Pabs(LaneWidth::Byte)), 128, false),
+        (moving(MoveOp::Movq), 128, false),
+    ] {
+        assert_eq!(rt;
+            fits(Shape { op, w, vex }, args, 7),
+            Err(Misfit::BadOperand)
         );
     }
 }

@@ -6,6 +6,8 @@ use Rattle.std.proofs.lemmas.List.{length-map}
 use Rattle.std.proofs.lemmas.Option.{same_Some, slice_get-get_or, slice_get-map}
 use Rattle.align_base.specs.declared.op.Op.{Op}
 use Rattle.align_base.specs.declared.op.Op.TheVariants as ops
+use Rattle.align_base.specs.declared.vector_op.VectorOp.{VectorOp}
+use Rattle.align_base.specs.declared.vector_op.VectorOp.TheVariants.{Vzeroupper}
 use Rattle.insn_table.specs.Closed.{IsClosed}
 use Rattle.insn_table.specs.declared.insn.Insn.{Insn}
 use Rattle.insn_table.specs.declared.insn.Operand.{Operand}
@@ -13,7 +15,7 @@ use Rattle.insn_table.specs.declared.insn.Operand.TheVariants.{Reg, Imm, Mem, Ve
 use Rattle.flow_graph.specs.Flows.{Follows, IsPath, Leads, flow_by, flow_of, flows_of, target_place}
 use Rattle.machine.proofs.Closed.{closed-runnable}
 use Rattle.machine.proofs.Families.{stays_inside, step_at}
-use Rattle.machine.specs.Family.{family_of, holds_of}
+use Rattle.machine.specs.Family.{family_of, holds_of, vector_family}
 use Rattle.machine.specs.Machine.{Machine}
 use Rattle.machine.specs.Operands.{operand}
 use Rattle.machine.specs.Step.{after_change, allows_step, at_place, free_at, free_step, goes, insn_step, jump_place, leads_to, step_of, step_to, step_where_known}
@@ -35,12 +37,18 @@ same_target (Vec n w) = refl
 same_target (Pool at) = refl
 same_target Nothing = refl
 
+-- an instruction on vectors leads to the next one
+led-vectors : (op : VectorOp) (i : Insn) (from to : ℕ) (holds : Bool) → leads_to (vector_family op) i from holds ≡ Some to → Leads (flow_by (ops.Vector op) i) from to
+led-vectors Vzeroupper i from to holds h = sym (same_Some _ _ h)
+led-vectors _ i from to holds h = sym (same_Some _ _ h)
+
 -- where an instruction leads is in its flow
 led : (op : Op) (i : Insn) (from to : ℕ) (holds : Bool) → leads_to (family_of op) i from holds ≡ Some to → Leads (flow_by op i) from to
 led (ops.Jump c) i from to true h = inl (sym (same_Some _ _ h) ∙ same_target (operand i 0))
 led (ops.Jump c) i from to false h = inr (sym (same_Some _ _ h))
 led ops.Jmp i from to holds h = sym (same_Some _ _ h) ∙ same_target (operand i 0)
 led ops.Ret i from to holds h = absurd (cc)
+led (ops.Vector op) i from to holds h = led-vectors op i from to holds h
 led _ i from to holds h = sym (same_Some _ _ h)
 
 tested-goes : {S : Type 0} (b : Bool) (p : Step S) (t : S) → tested b p ≡ Goes t → p ≡ Goes t

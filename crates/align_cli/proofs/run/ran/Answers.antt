@@ -1,10 +1,12 @@
 use Rattle.std.proofs.Common.{◌∷◌, [], inl, arith, refl}
 use Rattle.align_base.specs.declared.status.Side.TheVariants.{Left}
+use Rattle.align_base.specs.declared.status.Status.TheVariants as status
 use Rattle.command_line.specs.Command.{Run}
 use Rattle.command_line.specs.View.{run_view}
+use Rattle.align_cli.specs.Answers.{TellsOf}
 use Rattle.align_cli.specs.Files.{admission_file, function_file, tests_file}
 use Rattle.align_cli.specs.Inside.{Interrupts}
-use Rattle.align_cli.proofs.Reaching.{counted_thrice, counted_twice, err-is, first-interrupts, first-refused, next-interrupts, next-refused, run-finishes, run-first, run-second}
+use Rattle.align_cli.proofs.Reaching.{answer-as, counted_thrice, counted_twice, err-is, first-interrupts, first-refused, next-interrupts, next-refused, run-finishes, run-first, run-second}
 use Rattle.align_cli.proofs.run.ran.Goals as goal
 
 pub returns-in_err-function-clause-err : goal.returns-in_err-function-clause-err
@@ -17,8 +19,9 @@ returns-in_err-function-clause-err g c =
 pub returns-in-Refused-clause-ok : goal.returns-in-Refused-clause-ok
 returns-in-Refused-clause-ok g c =
     let run = run_view c.args.arguments.now in
-    inl (first-refused (Run run) (g.F.Shelf.account c.args.shelf.now) (g.F.Shelf.account c.function_in.new.shelf) (function_file Left run.function)
-    (admission_file run.admission ∷ tests_file run.tests ∷ []) refl c.function_in.ensures.taken _ (rw c.in-Refused.is at c.in_ok-function.ensures.ok))
+    answer-as (λ s report. TellsOf (Run run) s (g.F.Shelf.account c.args.shelf.now) (g.F.Shelf.account c.function_in.new.shelf) report) status.Refused _ _ _
+    c.new.ensures.status c.new.ensures.report (inl (first-refused (Run run) (g.F.Shelf.account c.args.shelf.now) (g.F.Shelf.account c.function_in.new.shelf) (function_file Left run.function)
+    (admission_file run.admission ∷ tests_file run.tests ∷ []) refl c.function_in.ensures.taken _ (rw c.in-Refused.is at c.in_ok-function.ensures.ok)))
 
 pub returns-in_err-admission-clause-takes : goal.returns-in_err-admission-clause-takes
 returns-in_err-admission-clause-takes g c = (2, omega arith, counted_twice _ _ _ c.function_in.ensures.taken c.admission_in.ensures.taken)
@@ -41,9 +44,10 @@ returns-in-Refused-2-clause-ok g c =
     let run = run_view c.args.arguments.now in
     let so_far = run-first run (g.F.Shelf.account c.args.shelf.now) (g.F.Shelf.account c.function_in.new.shelf) _ (rw c.in-Read.is at c.in_ok-function.ensures.ok)
     c.function_in.ensures.holding c.function_in.ensures.taken c.in_ok-function.ensures.none_failed in
-    inl (next-refused (Run run) (g.F.Shelf.account c.args.shelf.now) (g.F.Shelf.account c.function_in.new.shelf) (g.F.Shelf.account c.admission_in.new.shelf)
+    answer-as (λ s report. TellsOf (Run run) s (g.F.Shelf.account c.args.shelf.now) (g.F.Shelf.account c.admission_in.new.shelf) report) status.Refused _ _ _
+    c.new-in-Refused-2.ensures.status c.new-in-Refused-2.ensures.report (inl (next-refused (Run run) (g.F.Shelf.account c.args.shelf.now) (g.F.Shelf.account c.function_in.new.shelf) (g.F.Shelf.account c.admission_in.new.shelf)
     (function_file Left run.function ∷ []) (admission_file run.admission) (tests_file run.tests ∷ []) so_far c.admission_in.ensures.taken
-    _ (rw c.in-Refused-2.is at c.in_ok-admission.ensures.ok))
+    _ (rw c.in-Refused-2.is at c.in_ok-admission.ensures.ok)))
 
 pub returns-in_err-tests-clause-takes : goal.returns-in_err-tests-clause-takes
 returns-in_err-tests-clause-takes g c = (3, omega arith, counted_thrice _ _ _ _ c.function_in.ensures.taken c.admission_in.ensures.taken c.tests_in.ensures.taken)
@@ -70,9 +74,10 @@ returns-in-Refused-3-clause-ok g c =
     c.function_in.ensures.holding c.function_in.ensures.taken c.in_ok-function.ensures.none_failed in
     let two = run-second run (g.F.Shelf.account c.args.shelf.now) (g.F.Shelf.account c.function_in.new.shelf) (g.F.Shelf.account c.admission_in.new.shelf) one _
     (rw c.in-Read-2.is at c.in_ok-admission.ensures.ok) c.admission_in.ensures.holding c.admission_in.ensures.taken c.in_ok-admission.ensures.none_failed in
-    inl (next-refused (Run run) (g.F.Shelf.account c.args.shelf.now) (g.F.Shelf.account c.admission_in.new.shelf) (g.F.Shelf.account c.tests_in.new.shelf)
+    answer-as (λ s report. TellsOf (Run run) s (g.F.Shelf.account c.args.shelf.now) (g.F.Shelf.account c.tests_in.new.shelf) report) status.Refused _ _ _
+    c.new-in-Refused-3.ensures.status c.new-in-Refused-3.ensures.report (inl (next-refused (Run run) (g.F.Shelf.account c.args.shelf.now) (g.F.Shelf.account c.admission_in.new.shelf) (g.F.Shelf.account c.tests_in.new.shelf)
     (function_file Left run.function ∷ admission_file run.admission ∷ []) (tests_file run.tests) [] two c.tests_in.ensures.taken
-    _ (rw c.in-Refused-3.is at c.in_ok-tests.ensures.ok))
+    _ (rw c.in-Refused-3.is at c.in_ok-tests.ensures.ok)))
 
 pub returns-in_err-run_text-clause-takes : goal.returns-in_err-run_text-clause-takes
 returns-in_err-run_text-clause-takes g c = (3, omega arith, counted_thrice _ _ _ _ c.function_in.ensures.taken c.admission_in.ensures.taken c.tests_in.ensures.taken)
@@ -90,5 +95,7 @@ returns-clause-ok g c =
     c.function_in.ensures.holding c.function_in.ensures.taken c.in_ok-function.ensures.none_failed in
     let two = run-second run (g.F.Shelf.account c.args.shelf.now) (g.F.Shelf.account c.function_in.new.shelf) (g.F.Shelf.account c.admission_in.new.shelf) one _
     is_a c.admission_in.ensures.holding c.admission_in.ensures.taken c.in_ok-admission.ensures.none_failed in
-    run-finishes run (g.F.Shelf.account c.args.shelf.now) (g.F.Shelf.account c.function_in.new.shelf) (g.F.Shelf.account c.admission_in.new.shelf) (g.F.Shelf.account c.tests_in.new.shelf)
-    _ is_f c.function_in.ensures.holding _ is_a two _ is_t c.tests_in.ensures.holding c.tests_in.ensures.taken c.in_ok-tests.ensures.none_failed _ c.in_ok-run_text.ensures
+    answer-as (λ s report. TellsOf (Run run) s (g.F.Shelf.account c.args.shelf.now) (g.F.Shelf.account c.tests_in.new.shelf) report) status.Good _ _ _
+    c.new-2.ensures.status c.new-2.ensures.report
+    (run-finishes run (g.F.Shelf.account c.args.shelf.now) (g.F.Shelf.account c.function_in.new.shelf) (g.F.Shelf.account c.admission_in.new.shelf) (g.F.Shelf.account c.tests_in.new.shelf)
+    _ is_f c.function_in.ensures.holding _ is_a two _ is_t c.tests_in.ensures.holding c.tests_in.ensures.taken c.in_ok-tests.ensures.none_failed _ c.in_ok-run_text.ensures)

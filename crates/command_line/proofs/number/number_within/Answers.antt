@@ -1,6 +1,5 @@
 use Rattle.std.proofs.Common.{◌≡◌, ◌∙◌, ap, arith, bytes_eq, decimal, false, rules, sym}
 use Rattle.std.proofs.lemmas.Slice.Eq.{bytes_eq-Decides}
-use Rattle.std.specs.Prelude.{Ok}
 use Rattle.command_line.proofs.Numbers.{parsed}
 use Rattle.command_line.proofs.number.number_within.Goals as goal
 

@@ -1,4 +1,4 @@
-use Rattle.std.proofs.Common.{◌≡◌, ◌∙◌, ◌++◌, ◌∷◌, [], map, rules, string_bytes}
+use Rattle.std.proofs.Common.{map, rules, string_bytes}
 use Rattle.command_line.proofs.Pushing.{all-pushed, pushed-text}
 use Rattle.command_line.proofs.parser.parser_words.Goals as goal
 

@@ -1,4 +1,4 @@
-use Rattle.std.proofs.Common.{◌≡◌, ℕ, Some, ap, is_some, sym, ◌∙◌, decimal}
+use Rattle.std.proofs.Common.{◌≡◌, Some, ap, is_some, decimal}
 use Rattle.std.specs.Str.Parse.{ExplainsUnsignedError, HasUnsignedDigitsIfOk, ParsesUnsigned}
 use Rattle.command_line.proofs.Pushing.{read-number}
 use Rattle.command_line.proofs.parser.steps_of.Goals as goal

@@ -1,4 +1,4 @@
-use Rattle.std.proofs.Common.{◌≡◌, ◌∙◌, ◌-◌, ◌∷◌, List, ap, arith, drop, length, subst, sym, take, ℕ}
+use Rattle.std.proofs.Common.{◌∙◌, ◌-◌, ◌∷◌, List, ap, arith, drop, length, subst, sym, take, ℕ}
 use Rattle.command_line.specs.Parser.{IsOfForm}
 use Rattle.command_line.specs.View.{command_view, line_view}
 use Rattle.command_line.specs.declared.command.Form.{Form}

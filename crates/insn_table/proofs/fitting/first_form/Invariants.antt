@@ -1,6 +1,6 @@
 use Rattle.std.proofs.Common.{◌≡◌, length}
 use Rattle.std.specs.List.{find}
-use Rattle.insn_table.specs.Forms.{takes}
+use Rattle.insn_table.specs.Classes.{takes}
 use Rattle.insn_table.proofs.fitting.first_form.Given as goal
 
 -- the first of those that are left is the first of all

@@ -1,6 +1,6 @@
 use Rattle.std.proofs.Common.{◌≡◌, ◌≤◌, take}
 use Rattle.std.specs.List.{count_by}
-use Rattle.insn_table.specs.Forms.{is_memory}
+use Rattle.insn_table.specs.Classes.{is_memory}
 use Rattle.insn_table.proofs.fitting.memories.Given as goal
 
 -- those counted so far are the ones in memory among those seen

@@ -1,7 +1,9 @@
 use Rattle.std.proofs.Common.{◌∙◌, ap, subst}
 use Rattle.instruction_semantics.specs.FlagRules.{flags_after}
 use Rattle.machine.specs.Kept.{IsKept, Kept, pure_of}
+use Rattle.machine.specs.declared.operands.Family.TheVariants.{Computing}
 use Rattle.machine.proofs.Allowed.{target_spanned}
+use Rattle.machine.proofs.VectorFamilies.{words_of}
 use Rattle.machine.proofs.RowValues.{row_after, row_computes}
 use Rattle.machine.proofs.state.State.compute.Goals as goal
 
@@ -12,7 +14,7 @@ scalar-word-requires c =
 
 pub complete-requires-clause-spanned : goal.complete-requires-clause-spanned
 complete-requires-clause-spanned c =
-    target_spanned c.args.insn.now c.args.self.now (subst IsKept c.self.view_is c.self.invariant.kept) c.requires.allowed
+    target_spanned c.args.insn.now c.args.self.now (words_of c.args.insn.now Computing c.requires.family tt) (subst IsKept c.self.view_is c.self.invariant.kept) c.requires.allowed
 
 pub returns : goal.returns
 returns c =

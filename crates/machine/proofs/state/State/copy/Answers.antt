@@ -11,7 +11,7 @@ invariant_of-result c =
     let old : Kept = kept_of c.self.inside in
     let new : Kept = record old { spans = c.in_ok-spans.spans.items; regions = c.in_ok-regions.regions.items } in
     let same = c.in_ok-spans.ensures ∙ ap (λ (spans : List Span). contents spans) c.deref.ensures.value in
-    held_by_places old new c.self.invariant.regs refl refl refl (c.in_ok-regions.ensures.items ∙ c.deref-2.ensures.value)
+    held_by_places old new c.self.invariant.regs refl c.self.invariant.vecs refl (c.in_ok-regions.ensures.items ∙ c.deref-2.ensures.value)
     (places_by_contents old.spans new.spans same) c.self.invariant
 
 pub returns : goal.returns

@@ -7,4 +7,4 @@ use Rattle.machine.proofs.state.State.put.Goals as goal
 pub invariant_of-self-in-Mem : goal.invariant_of-self-in-Mem
 invariant_of-self-in-Mem c =
     let old : Kept = kept_of c.self.inside in
-    held_by_places old (record old { spans = c.put_word.new.spans.items }) c.self.invariant.regs refl refl refl refl c.put_word.ensures.places c.self.invariant
+    held_by_places old (record old { spans = c.put_word.new.spans.items }) c.self.invariant.regs refl c.self.invariant.vecs refl refl c.put_word.ensures.places c.self.invariant

@@ -2,14 +2,16 @@ use Rattle.std.proofs.Common.{◌≡◌, ◌∙◌, ap, sym, subst}
 use Rattle.instruction_semantics.specs.Words.{bit}
 use Rattle.machine.specs.Ready.{finished_row}
 use Rattle.machine.specs.Kept.{IsKept, Kept, pure_of}
+use Rattle.machine.specs.declared.operands.Family.TheVariants.{Setting}
 use Rattle.machine.proofs.Allowed.{target_spanned}
+use Rattle.machine.proofs.VectorFamilies.{words_of}
 use Rattle.machine.proofs.RowValues.{setting_after}
 use Rattle.machine.proofs.state.State.set.Goals as goal
 use Rattle.machine.proofs.state.State.set.Goals.{then-holds, else-holds}
 
 pub complete-requires-clause-spanned : goal.complete-requires-clause-spanned
 complete-requires-clause-spanned c =
-    target_spanned c.args.insn.now c.args.self.now (subst IsKept c.self.view_is c.self.invariant.kept) c.requires.allowed
+    target_spanned c.args.insn.now c.args.self.now (words_of c.args.insn.now Setting c.requires.family tt) (subst IsKept c.self.view_is c.self.invariant.kept) c.requires.allowed
 
 pub returns : goal.returns
 returns c =

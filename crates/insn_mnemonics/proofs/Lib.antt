@@ -1,0 +1,2 @@
+pub mod VectorNaming
+pub mod Naming

@@ -1,0 +1,2 @@
+pub mod VectorMnemonics
+pub mod Mnemonics

@@ -1,0 +1,23 @@
+use Rattle.std.proofs.Common.{ℕ, ◌<◌, arith, length, List, take}
+use Rattle.node_forms.specs.declared.form.Form.{Form}
+use Rattle.linear_forms.specs.declared.places.Place.{Place}
+use Rattle.linear_forms.specs.declared.places.Place.TheVariants.{Constant}
+use Rattle.linear_forms.specs.Places.{HasAtoms}
+use Rattle.linear_forms.proofs.Pushes.{all_more}
+use Rattle.linear_forms.proofs.WeightedSums.{all_map, has_atoms_kept}
+use Rattle.linear_forms.proofs.combining.places_of.Goals as goal
+
+pub loop-part-preserved : goal.loop-part-preserved
+loop-part-preserved c =
+    let before : List Place = c.loop-part.places.keys in
+    let after : List Place = c.add_atoms-in-loop-part.new.places.keys in
+    let kept = c.in_ok-add_atoms-2.ensures.kept in
+    let inside : c.loop-part.part-index < length c.args.parts.now = omega arith in
+    record {
+      constant = kept Constant c.loop-part.invariant.constant;
+      target = has_atoms_kept before after kept c.args.target.now c.loop-part.invariant.target;
+      parts = all_more (λ (p : ℕ × Form). HasAtoms after p.1) c.args.parts.now c.loop-part.part-index c.loop-part-item.result inside c.loop-part-item.is
+          c.in_ok-add_atoms-2.ensures.atoms
+          (all_map (λ (p : ℕ × Form). HasAtoms before p.1) (λ p. HasAtoms after p.1) (λ p h. has_atoms_kept before after kept p.1 h)
+          (take c.loop-part.part-index c.args.parts.now) c.loop-part.invariant.parts);
+    }

@@ -1,0 +1,4 @@
+pub mod Combinations
+pub mod Places
+pub mod Rows
+pub mod Pivots

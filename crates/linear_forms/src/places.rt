@@ -1,0 +1,49 @@
+//! The places at which forms have words.
+ghost use Rattle.std.specs.Prelude.{◌≡◌, ℕ, OnOk, IfOk, length, slice_index};
+ghost use Rattle.node_forms.specs.Sums.{listed_coefficient};
+ghost use Rattle.linear_forms.specs.Places.{HasAtoms, IsAmong, word_at};
+
+use align_base::Memory;
+use indexmap::IndexSet;
+use node_forms::Form;
+use node_values::NodeId;
+
+/// A place of a form: one of its atoms, or the constant.
+#[derive(Clone, Copy, Debug, PartialEq, Eq, Hash)]
+pub enum Place {
+    Atom(NodeId),
+    Constant,
+}
+
+/// The word of a form at a place: the coefficient of the atom, or the constant.
+pub fn word_of(form: &Form, place: Place) -> u64
+    ensures { result ≡ word_at place form.now }
+{
+    match place {
+        Place::Atom(atom) => coefficient(form.atoms.as_slice(), atom),
+        Place::Constant => form.c,
+    }
+}
+
+/// The coefficient of an atom, 0 where it is not listed.
+fn coefficient(atoms: &[(NodeId, u64)], atom: NodeId) -> u64
+    ensures { result ≡ listed_coefficient atoms.now atom.0 }
+{
+    for (node, weight) in atoms {
+        if atom == *node {
+            return *weight;
+        }
+    }
+    0
+}
+
+/// Adds the atoms of a form to the places.
+pub fn add_atoms(places: &mut IndexSet<Place>, form: &Form) -> Result<(), Memory>
+    ensures kept { OnOk result ((place : Place) → IsAmong places.old.keys place → IsAmong places.new.keys place) }
+    ensures atoms { OnOk result (HasAtoms places.new.keys form.now) }
+{
+    for (atom, _) in form.atoms.as_slice() {
+        places.insert(Place::Atom(*atom))?;
+    }
+    Ok(())
+}

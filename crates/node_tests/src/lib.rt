@@ -1,0 +1,16 @@
+//! Tests of nodes, sheets, forms and their combinations, and nothing else: tables of nodes that are built
+//! one after another, whose numbers are worked by hand from the rules.
+#![tactic(auto)]
+
+#[cfg(test)]
+mod building;
+#[cfg(test)]
+mod evaluation;
+#[cfg(test)]
+mod forms;
+#[cfg(test)]
+mod systems;
+#[cfg(test)]
+mod trial;
+#[cfg(test)]
+mod values;
