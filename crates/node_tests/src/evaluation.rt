@@ -3,7 +3,7 @@
 use crate::trial::Trial;
 use align_base::Side::{Left, Right};
 use lane_views::Bytes32;
-use node_values::{Env, Node, NodeId};
+use node_values::{Both, Env, Node, NodeId};
 use sqlite_items::Items;
 use std::alloc::{AllocError, Global};
 use std::test::Fail;
@@ -17,20 +17,29 @@ const fn n(number: u32) -> NodeId {
 /// Register 1, a byte of vector 3 and the byte at address 16 on each side, register 2 at the entry, and the probe.
 fn environment(alloc: Global) -> Result<Env, AllocError> {
     let mut env = Env {
-        regs: [[0; 16]; 2],
+        regs: Both {
+            left: [0; 16],
+            right: [0; 16],
+        },
         entry: [0; 16],
-        vecs: [[Bytes32 { bytes: [0; 32] }; 16]; 2],
-        mem: (Items::new(alloc), Items::new(alloc)),
+        vecs: Both {
+            left: [Bytes32 { bytes: [0; 32] }; 16],
+            right: [Bytes32 { bytes: [0; 32] }; 16],
+        },
+        mem: Both {
+            left: Items::new(alloc),
+            right: Items::new(alloc),
+        },
         probe: TOP,
     };
-    env.regs[0][1] = 5;
-    env.regs[1][1] = 7;
+    env.regs.left[1] = 5;
+    env.regs.right[1] = 7;
     env.entry[2] = 9;
-    env.vecs[0][3].bytes[4] = 0x80;
-    env.vecs[1][3].bytes[31] = 0x7f;
-    env.mem.0.push((16, 0xaa))?;
-    env.mem.1.push((8, 0xcc))?;
-    env.mem.1.push((16, 0xbb))?;
+    env.vecs.left[3].bytes[4] = 0x80;
+    env.vecs.right[3].bytes[31] = 0x7f;
+    env.mem.left.push((16, 0xaa))?;
+    env.mem.right.push((8, 0xcc))?;
+    env.mem.right.push((16, 0xbb))?;
     Ok(env)
 }
 

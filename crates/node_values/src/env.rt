@@ -1,7 +1,7 @@
 //! Environments: what nodes read.
 ghost use Rattle.std.specs.Prelude.{◌≡◌, ℕ, ◌%◌, ◌<◌, ◌^◌, ◌≤◌, length, slice_index};
 ghost use Rattle.align_base.specs.declared.status.Side.{Side};
-ghost use Rattle.node_values.specs.Environments.{environment_of, first_byte, listed_bytes, side_number};
+ghost use Rattle.node_values.specs.Environments.{environment_of, first_byte, of_side};
 ghost use Rattle.node_values.specs.Nodes.{AreWordWidths, IsNode, node_width};
 ghost use Rattle.node_values.specs.Values.{node_value};
 
@@ -11,28 +11,37 @@ use align_base::Side;
 use lane_views::Bytes32;
 use sqlite_items::Items;
 
-/// The registers, vectors and memories of both sides, Left first, the registers at the entry, and
-/// the probe. An address stands at most once in a list, and a byte that is not listed is 0.
+/// A value for each side.
+#[derive(Debug, Drop)]
+pub struct Both<T> {
+    pub left: T,
+    pub right: T,
+}
+
+impl<T> Both<T> {
+    /// The value of a side.
+    pub fn of(&self, side: Side) -> &T
+        ensures { result.now ≡ of_side self.now side }
+    {
+        match side {
+            Side::Left => &self.left,
+            Side::Right => &self.right,
+        }
+    }
+}
+
+/// The registers, vectors and memories of both sides, the registers at the entry, and the probe.
+/// An address stands at most once in a list, and a byte that is not listed is 0.
 #[derive(Debug, Drop)]
 pub struct Env {
-    pub regs: [[u64; 16]; 2],
+    pub regs: Both<[u64; 16]>,
     pub entry: [u64; 16],
-    pub vecs: [[Bytes32; 16]; 2],
-    pub mem: (Items<(u64, u8)>, Items<(u64, u8)>),
+    pub vecs: Both<[Bytes32; 16]>,
+    pub mem: Both<Items<(u64, u8)>>,
     pub probe: u64,
 }
 
 impl Env {
-    /// The bytes that are listed of a side's memory.
-    fn listed(&self, side: Side) -> &[(u64, u8)]
-        ensures { result.now ≡ listed_bytes self.now side }
-    {
-        match side {
-            Side::Left => self.mem.0.as_slice(),
-            Side::Right => self.mem.1.as_slice(),
-        }
-    }
-
     /// The value of a node, from the widths and the values of the nodes before it.
     pub fn value(&self, node: Node, widths: &[u32], values: &[u64]) -> u64
         requires node { IsNode (slice_index widths.now) (length widths.now) node }
@@ -41,12 +50,12 @@ impl Env {
         ensures { result ≡ node_value (environment_of self.now) (slice_index widths.now) (slice_index values.now) node }
     {
         match node {
-            Node::Reg { side, n } => self.regs[side_place(side)][n as usize],
+            Node::Reg { side, n } => self.regs.of(side)[n as usize],
             Node::Entry { n } => self.entry[n as usize],
-            Node::VecByte { side, n, i } => {
-                self.vecs[side_place(side)][n as usize].bytes[i as usize] as u64
+            Node::VecByte { side, n, i } => self.vecs.of(side)[n as usize].bytes[i as usize] as u64,
+            Node::Start { side, at } => {
+                byte_at(self.mem.of(side).as_slice(), item(values, at.0)) as u64
             }
-            Node::Start { side, at } => byte_at(self.listed(side), item(values, at.0)) as u64,
             Node::Probe => low_64(self.probe),
             _ => {
                 let [x, y, z] = arguments(node);
@@ -67,16 +76,6 @@ fn low_64(n: u64) -> u64
     ensures { result ≡ n % 2 ^ 64 }
 {
     n
-}
-
-fn side_place(side: Side) -> usize
-    ensures is { result ≡ side_number side }
-    ensures below { result < 2 }
-{
-    match side {
-        Side::Left => 0,
-        Side::Right => 1,
-    }
 }
 
 /// The value of this number, 0 past the end.

@@ -11,6 +11,6 @@ mod env;
 mod node;
 mod operation;
 
-pub use env::Env;
+pub use env::{Both, Env};
 pub use node::{Node, NodeId};
 pub use operation::{arguments, operate, width};
