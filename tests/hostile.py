@@ -3,11 +3,11 @@
 
     python3 tests/hostile.py COUNT [--seed N] [--first K] [--keep FOLDER]
 
-Runs `align run`, `align decide` and `align show` COUNT times. Each has to end without a signal, within 10 s, with an answer
-or a named refusal whose text has one of the forms of its status (tests/report_forms.py), and within 50 ms: a run above
-that is done again, alone, up to five times, and the least time counts. The inputs follow from the seed (1) and
-the number of the run alone, so `--first K 1` does run K again. The environment variable ALIGN names the program. Each
-failure's files and arguments are kept in a folder of their own, below FOLDER. Exit status 1 where there is one.
+Runs `align run`, `align decide` and `align show` COUNT times. Each has to end without a signal, within 10 s, with an
+answer or a named refusal whose text has one of the forms of its status (tests/report_forms.py), and within 50 ms: a
+run above that is done again, up to five times, and the least time counts. The inputs follow from the seed (1) and the
+number of the run alone, so `--first K 1` does run K again. The environment variable ALIGN names the program. The files
+and arguments of each failure are kept in a folder of their own, below FOLDER. Exit status 1 where there is one.
 """
 import argparse
 import collections
@@ -41,7 +41,7 @@ class Runner:
                         (os.POSIX_SPAWN_DUP2, self.err, 2)]
 
     def run(self, words):
-        """The status of a run (negative: the signal that ended it, None: it hangs), what it printed, and its seconds."""
+        """The status of a run (negative: a signal ended it, None: it hangs), what it printed, and its seconds."""
         for file in (self.out, self.err):
             os.ftruncate(file, 0)
             os.lseek(file, 0, os.SEEK_SET)
@@ -100,7 +100,8 @@ def judge(words, files, result):
         return f"still running after {HANG_SECONDS} s"
     if status < 0:
         return f"ended by {signal.Signals(-status).name}"
-    return report_forms.judge(words, status, printed, errors, {os.fsdecode(name): text for name, text in files.items()})
+    texts = {os.fsdecode(name): text for name, text in files.items()}
+    return report_forms.judge(words, status, printed, errors, texts)
 
 
 class Tally:
@@ -128,8 +129,9 @@ class Tally:
             print(f"{kind:<42}{runs:>9}")
         for word, tests in sorted(self.tests.items()):
             print(f"   {'test ' + word:<39}{tests:>9}")
-        print(f"runs {count}, failures {self.failures}, in {seconds:.0f} s; above {MOST_SECONDS * 1000:.0f} ms at first "
-              f"{self.again}; slowest {self.slowest[0] * 1000:.1f} ms (run {self.slowest[1]})")
+        print(f"runs {count}, failures {self.failures}, in {seconds:.0f} s")
+        print(f"done again as they took above {MOST_SECONDS * 1000:.0f} ms: {self.again}; "
+              f"slowest {self.slowest[0] * 1000:.1f} ms (run {self.slowest[1]})")
 
 
 def one(inputs, runner, tally, options, number, before):

@@ -1,7 +1,7 @@
 """Random, mutated and odd inputs for `tests/hostile.py`: texts of functions, admissions, tests and arguments.
 
-`Inputs.make(rng)` gives the arguments of one run and the files that they name. What it gives depends on `rng` alone.
-Texts are drawn from the files of examples/, from those that are generated here, and from mutations of both.
+`Inputs.make(rng)` gives the arguments of one run and the files that they name. What it gives depends on `rng`
+alone. Texts are drawn from the files of examples/, from those that are generated here, and from mutations of both.
 """
 import glob
 import json
@@ -18,38 +18,46 @@ REGS = {"b": "al cl dl bl spl bpl sil dil".split() + [f"r{n}b" for n in range(8,
 QUADS = [name for name in REGS["q"] if name != "rsp"]
 JUMPS = "jmp je jne jb jae jbe ja jl jge jle jg js jns jo jno jp jnp jz jnz jc".split()
 ODD_LINES = [line.encode() for line in """
-.long 5|.size f, .-f|.size f|.cfi_endproc|.L1:|f:|g:|.L1: .L2: ret|.L1 : ret|x : ret|f: g: ret|rep ret|rep movsb|rep  ret
-rep|retq|ret %rax|nop 5|nopw|endbr64|addq $1,%ah|movb %ah,%al|addq $007,%rax|addq $-0,%rax|addq $0x,%rax|addq $-,%rax
-addl $4294967295,%eax|addl $4294967296,%eax|addl $-2147483649,%eax|addb $256,%al|addw $-32769,%ax|addq $,%rax|addq ,%rax
-movabsq $18446744073709551615,%rax|movabsq $18446744073709551616,%rax|shlq $0,%rax|shlq $64,%rax|shrb $8,%al|salq %rax
-jmp .L1|jne .L9|jne .L9,%rax|jmp $5|jmp $foo|jmp *%rax|jmp f|call f|je|movq .LC0(%rip),%rax|movdqa .LC0+4(%rip),%xmm0
-movq NAME-4(%rip),%rax|movq NAME+04(%rip),%rax|movq 8(%rip),%rax|movq (%rsp,%rsp),%rax|movq (,%rax,3),%rax|leaq (%rax,%rbx
-movq 2147483648(%rax),%rcx|movq -2147483648(%rax),%rcx|movq (%eax),%rcx|movq (),%rax|movq ((((((%rax)))))),%rcx|movq 5,%rax
-vpaddd %xmm0,%xmm1|paddd %ymm0,%ymm1|vpaddd %ymm0,%ymm1,%xmm2|pshufd $256,%xmm0,%xmm1|pshufd $-1,%xmm0,%xmm1|movdqa %xmm16,%xmm0
-vpermq $216,%ymm0,%ymm3|vzeroupper|vmovd %rax,%xmm0|movq %rax,%xmm0|movd %xmm0,%eax|cmove %eax,%rbx|cmovne %al,%bl|sete %eax
-imulq $3,%rax|imulq $3,%rax,%rbx|imulb $3,%al|mov %rax,%rbx|movzbl %al,%eax|movslq %eax,%rax|cltq|pushq %rbx|popq %rbx|popq %rsp
-push $5|pushl %eax|lock addq $1,(%rax)|addq $1,%fs:(%rax)|# comment|	.p2align 4,,10|	.byte 0|	.string "a#b"|;ret|ret;ret
+.long 5|.size f, .-f|.size f|.cfi_endproc|.L1:|f:|g:|.L1: .L2: ret|.L1 : ret|x : ret|f: g: ret|rep ret|rep movsb
+rep  ret|rep|retq|ret %rax|nop 5|nopw|endbr64|addq $1,%ah|movb %ah,%al|addq $007,%rax|addq $-0,%rax
+addq $0x,%rax|addq $-,%rax|addl $4294967295,%eax|addl $4294967296,%eax|addl $-2147483649,%eax|addb $256,%al
+addw $-32769,%ax|addq $,%rax|addq ,%rax|movabsq $18446744073709551615,%rax|movabsq $18446744073709551616,%rax
+shlq $0,%rax|shlq $64,%rax|shrb $8,%al|salq %rax|jmp .L1|jne .L9|jne .L9,%rax|jmp $5|jmp $foo|jmp *%rax|jmp f
+call f|je|movq .LC0(%rip),%rax|movdqa .LC0+4(%rip),%xmm0|movq NAME-4(%rip),%rax|movq NAME+04(%rip),%rax
+movq 8(%rip),%rax|movq (%rsp,%rsp),%rax|movq (,%rax,3),%rax|leaq (%rax,%rbx|movq 2147483648(%rax),%rcx
+movq -2147483648(%rax),%rcx|movq (%eax),%rcx|movq (),%rax|movq ((((((%rax)))))),%rcx|movq 5,%rax
+vpaddd %xmm0,%xmm1|paddd %ymm0,%ymm1|vpaddd %ymm0,%ymm1,%xmm2|pshufd $256,%xmm0,%xmm1|pshufd $-1,%xmm0,%xmm1
+movdqa %xmm16,%xmm0|vpermq $216,%ymm0,%ymm3|vzeroupper|vmovd %rax,%xmm0|movq %rax,%xmm0|movd %xmm0,%eax
+cmove %eax,%rbx|cmovne %al,%bl|sete %eax|imulq $3,%rax|imulq $3,%rax,%rbx|imulb $3,%al|mov %rax,%rbx
+movzbl %al,%eax|movslq %eax,%rax|cltq|pushq %rbx|popq %rbx|popq %rsp|push $5|pushl %eax|lock addq $1,(%rax)
+addq $1,%fs:(%rax)|# comment|	.p2align 4,,10|	.byte 0|	.string "a#b"|;ret|ret;ret
 """.replace("\n", "|").split("|") if line]
 ODD_ADMIT = [line.encode() for line in """
-admit 1|admit 2|admit  1|live|live %rax|live %ah|live %xmm0 %ymm15|live %xmm16|live %rip|stack 8|stack 4096|stack 4104|stack 7|stack 0
-region a %rdi 16 read|region a %rdi 16  write|region A %rdi 16 read|region abcdefghijklmnopq %rdi 16 read|region b %edi 16 read
-region b %rdi 18446744073709551615 write|region b 0 0 read|region b 0-1 1 write|region b 2*%rdi+4*%rsi-8+1 0x10 read|region b
-region b %rdi+%rdi+%rdi+%rdi+%rdi+%rdi+%rdi+%rdi 8 read|region b %rdi+%rdi+%rdi+%rdi+%rdi+%rdi+%rdi+%rdi+1 8 read|region b -1 8 read
-require %rsi mod 4 = 0|require %rsi mod 4 = 4|require %rsi mod 3 = 0|require %rsi mod 8192 = 0|require %rsi s< 5|require %rsi == 5
-require 1 = 1|require 1 != 1|require 0x|require 007 = 7|require 18446744073709551616 = 0|apart a a|apart a b|apart b a|apart a nothing
-scratch %rdi 4|scratch 0-1 18446744073709551615|scratch|# comment| live %rax|live %rax |live	%rax|live %rax\r|LIVE|admit
+admit 1|admit 2|admit  1|live|live %rax|live %ah|live %xmm0 %ymm15|live %xmm16|live %rip|stack 8|stack 4096
+stack 4104|stack 7|stack 0|region a %rdi 16 read|region a %rdi 16  write|region A %rdi 16 read
+region abcdefghijklmnopq %rdi 16 read|region b %edi 16 read|region b %rdi 18446744073709551615 write
+region b 0 0 read|region b 0-1 1 write|region b 2*%rdi+4*%rsi-8+1 0x10 read|region b
+region b %rdi+%rdi+%rdi+%rdi+%rdi+%rdi+%rdi+%rdi 8 read
+region b %rdi+%rdi+%rdi+%rdi+%rdi+%rdi+%rdi+%rdi+1 8 read|region b -1 8 read|require %rsi mod 4 = 0
+require %rsi mod 4 = 4|require %rsi mod 3 = 0|require %rsi mod 8192 = 0|require %rsi s< 5|require %rsi == 5
+require 1 = 1|require 1 != 1|require 0x|require 007 = 7|require 18446744073709551616 = 0|apart a a|apart a b
+apart b a|apart a nothing|scratch %rdi 4|scratch 0-1 18446744073709551615|scratch|# comment| live %rax
+live %rax |live	%rax|live %rax\r|LIVE|admit
 """.replace("\n", "|").split("|") if line]
-ODD_JSON = ["1e999", "-0", "5.0", "5e0", "18446744073709551616", "18446744073709551615", "0x10", "007", "+1", "NaN", "null",
-            "true", "[]", "{}", '""', '"00"', '"0"', '"\\ud800"', '"\\u0000"', "1e-5", "123456789012345678901234567890", "-1",
-            '"' + "0" * 64 + '"', '"' + "f" * 63 + '"', '"' + "G" * 64 + '"', "[[[[[[]]]]]]", '{"a":1,"a":2}', "1.", ".5", "1e"]
+ODD_JSON = ["1e999", "-0", "5.0", "5e0", "18446744073709551616", "18446744073709551615", "0x10", "007", "+1", "NaN",
+            "null", "true", "[]", "{}", '""', '"00"', '"0"', '"\\ud800"', '"\\u0000"', "1e-5", "1" * 30, "-1",
+            '"' + "0" * 64 + '"', '"' + "f" * 63 + '"', '"' + "G" * 64 + '"', "[[[[]]]]", '{"a":1,"a":2}', "1.",
+            ".5", "1e"]
 ODD_WORDS = [b"", b"-", b"--", b"---", b"-a", b"--steps", b"--steps=", b"--steps=5", b"--steps=0", b"--steps=65536",
-             b"--steps=65537", b"--steps=007", b"--steps=+5", b"--steps=0x5", b"--steps=-1", b"--steps=999999999999999999999",
-             b"--steps=5=5", b"--step=5", b"--cert=a", b"--cert", b"--budget=5", b"--help", b"-h", b"--version", b"-V", b"--=",
-             b"-5", b"5", b"0", b"\xff", b"a\xff", b"\xed\xa0\x80", b"\xef\xbb\xbf", b"f ", b" f", b"\n", b"a\nb", b"%s%n", b"*",
-             b"help", b"sample", b"check", b"decide", b"run", b"show", b"chain", b"\x01", "é".encode(), b"x" * 5000, b"=", b"--=5"]
+             b"--steps=65537", b"--steps=007", b"--steps=+5", b"--steps=0x5", b"--steps=-1", b"--steps=" + b"9" * 21,
+             b"--steps=5=5", b"--step=5", b"--cert=a", b"--cert", b"--budget=5", b"--help", b"-h", b"--version", b"-V",
+             b"--=", b"-5", b"5", b"0", b"\xff", b"a\xff", b"\xed\xa0\x80", b"\xef\xbb\xbf", b"f ", b" f", b"\n",
+             b"a\nb", b"%s%n", b"*", b"help", b"sample", b"check", b"decide", b"run", b"show", b"chain", b"\x01", "é".encode(),
+             b"x" * 5000, b"=", b"--=5"]
 ODD_FILES = [b"missing", b"folder", b"folder/", b"l/", b"l/l", b".", b"..", b"/", b"/dev/null", b"loop", b"x" * 300,
              b"a/" * 2000 + b"b", b"./l", b"locked/x", b"\xc3\xa9"]
-ODD_NAMES = [b".L1", b".L3", b"main", b"F", b"ff", b"$", b"f:", b"f,", b"_", b".size", b"\xc3\xa9", b"f" * 4096, b"1", b"f g", b"%rax"]
+ODD_NAMES = [b".L1", b".L3", b"main", b"F", b"ff", b"$", b"f:", b"f,", b"_", b".size", b"\xc3\xa9", b"f" * 4096, b"1",
+             b"f g", b"%rax"]
 
 
 class Inputs:
@@ -111,7 +119,8 @@ class Inputs:
         if kind < 0.45:
             return rng.choice(self.lines)
         width = rng.choice("bwlq")
-        memory = f"{rng.choice(['', '4', '8', '16', '-4', '1000'])}(%{rng.choice(['rdi', 'rsi', 'rdi,%rcx,4', 'rsi,%rax'])})"
+        places = ["(%rdi)", "(%rsi)", "(%rdi,%rcx,4)", "(%rsi,%rax)"]
+        memory = rng.choice(["", "4", "8", "16", "-4", "1000"]) + rng.choice(places)
         registers = [f"%{rng.choice(REGS[width])}" for _ in range(2)]
         source = rng.choice([registers[0], registers[0], f"${rng.choice([0, 1, 5, 127, -1])}", memory])
         target = registers[1] if source == memory else rng.choice([registers[1], registers[1], memory])
@@ -148,14 +157,16 @@ def plain_body(rng):
     lines = []
     for _ in range(rng.choice([0, 1, 2, 3, 5, 12])):
         source = f"%{rng.choice(QUADS)}" if rng.random() < 0.7 else f"${rng.choice([0, 1, -1, 5, 2**31 - 1, -2**31])}"
-        lines.append(f"{rng.choice(['movq', 'addq', 'subq'])} {source},%{rng.choice(['rax', 'rax', rng.choice(QUADS)])}")
+        target = rng.choice(["rax", "rax", rng.choice(QUADS)])
+        lines.append(f"{rng.choice(['movq', 'addq', 'subq'])} {source},%{target}")
     return ("\n".join(lines + ["ret"]) + rng.choice(["\n", ""])).encode()
 
 
 def expression(rng):
     """An expression of an admission."""
     small = str(rng.choice([0, 1, 4, 8, 16, 64, 4096, 8192]))
-    terms = [rng.choice(["%rdi", "%rsi", "4*%rsi", "%rdx", small, small]) for _ in range(rng.choice([1, 1, 1, 2, 3, 8]))]
+    count = rng.choice([1, 1, 1, 2, 3, 8])
+    terms = [rng.choice(["%rdi", "%rsi", "4*%rsi", "%rdx", small, small]) for _ in range(count)]
     return "".join(term if not place else rng.choice("++-") + term for place, term in enumerate(terms))
 
 
@@ -169,7 +180,8 @@ def random_admission(rng):
         length = rng.choice(["4*%rsi", "64", "16", "4096", expression(rng)])
         lines.append(f"region n{number} {base} {length} {rng.choice(['read', 'write'])}")
     for _ in range(many([0, 0, 0, 1], 32)):
-        lines.append(rng.choice([f"require {expression(rng)} {rng.choice('= != < <= s< s<='.split())} {expression(rng)}",
+        relation = rng.choice("= != < <= s< s<=".split())
+        lines.append(rng.choice([f"require {expression(rng)} {relation} {expression(rng)}",
                                  f"require {expression(rng)} mod {1 << rng.randrange(1, 13)} = {rng.randrange(2)}",
                                  "require %rsi < 4096"]))
     if len(names) > 1:
@@ -192,15 +204,19 @@ def random_tests(rng):
             if rng.random() < 0.3:
                 test["regs"][rng.choice(REGS["q"])] = rng.choice(BOUNDARY)
         if rng.random() < 0.3:
-            test["mem"] = [{"at": rdi + rng.choice([0, 0, 4, 12]), "hex": "%0*x" % (rng.choice([2, 8, 8, 32]), rng.randrange(256))}
-                           for _ in range(rng.choice([0, 1, 2]))]
-            if rng.random() < 0.02:
-                test["mem"] = [{"at": rng.choice([0, 4096]), "hex": "00" * rng.choice([65536, 65537, 40000])}] * rng.choice([1, 2])
+            test["mem"] = [random_piece(rng, rdi) for _ in range(rng.choice([0, 1, 2]))]
         if rng.random() < 0.2:
             test["ymm"] = {str(rng.choice([0, 1, 15, 16])): "%064x" % rng.getrandbits(256)}
         tests.append(test)
     text = json.dumps({"tests": tests}, indent=rng.choice([None, None, 1]))
     return text.encode()
+
+
+def random_piece(rng, rdi):
+    """A piece of the memory of a test, now and then one of very many bytes."""
+    if rng.random() < 0.02:
+        return {"at": rng.choice([0, 4096]), "hex": "00" * rng.choice([40000, 65536, 65537])}
+    return {"at": rdi + rng.choice([0, 0, 4, 12]), "hex": "%0*x" % (rng.choice([2, 8, 8, 32]), rng.randrange(256))}
 
 
 def change_words(rng, words):
@@ -228,7 +244,8 @@ def flip(_, rng, text, odd):
     """One to eight bytes replaced."""
     changed = bytearray(text)
     for _ in range(rng.choice([1, 2, 8]) if changed else 0):
-        changed[rng.randrange(len(changed))] = rng.choice([rng.randrange(256), rng.randrange(32, 127), 0, 10, 13, 32, 255])
+        byte = rng.choice([rng.randrange(256), rng.randrange(32, 127), 0, 10, 13, 32, 255])
+        changed[rng.randrange(len(changed))] = byte
     return bytes(changed)
 
 
@@ -236,8 +253,8 @@ def insert(_, rng, text, odd):
     """Odd bytes put in: no UTF-8, NULs, blanks, carriage returns, runs of one byte."""
     place = rng.randrange(len(text) + 1)
     run = bytes([rng.choice(b"a(,#%$-0 \t[{\"\\:.\x00")]) * rng.choice([1, 2, 1000, 4090, 4096, 4097, 20000])
-    part = rng.choice([b"\xff", b"\xc3", b"\xed\xa0\x80", b"\xf4\x90\x80\x80", b"\x00", b"\r", b"\r\n", b"\t", b"  ", b"\n\n",
-                       "é€😀".encode(), b"\xef\xbb\xbf", b"\x7f", run, run])
+    part = rng.choice([b"\xff", b"\xc3", b"\xed\xa0\x80", b"\xf4\x90\x80\x80", b"\x00", b"\r", b"\r\n", b"\t", b"  ",
+                       b"\n\n", "é€😀".encode(), b"\xef\xbb\xbf", b"\x7f", run, run])
     return text[:place] + part + text[place:]
 
 
@@ -270,7 +287,8 @@ def renumber(_, rng, text, odd):
     if not found:
         return text
     place, number = rng.choice(found), rng.choice(BOUNDARY)
-    written = rng.choice([b"%d" % number, b"-%d" % number, b"0x%x" % number, b"0%d" % number, b"9" * rng.choice([20, 400, 5000])])
+    written = rng.choice([b"%d" % number, b"-%d" % number, b"0x%x" % number, b"0%d" % number,
+                          b"9" * rng.choice([20, 400, 5000])])
     return text[:place.start()] + written + text[place.end():]
 
 
@@ -299,4 +317,5 @@ def noise(_, rng, text, odd):
     return rng.randbytes(rng.choice([1, 10, 100, 1000]))
 
 
-MUTATIONS = [flip, insert, edit_lines, edit_lines, edit_lines, repeat, renumber, renumber, exchange, exchange, truncate, splice, noise]
+MUTATIONS = [flip, insert, edit_lines, edit_lines, edit_lines, repeat, renumber, renumber, exchange, exchange,
+             truncate, splice, noise]

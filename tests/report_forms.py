@@ -1,8 +1,8 @@
 """The forms of what `align` prints, by status, and the rules of its arguments, for the scripts that try it.
 
-`judge` says what is wrong with an answer: that its status does not come of such arguments, or that the printed text has
-none of the forms of that status. It knows the forms, not the right answer: of the files it looks only at what is told by
-a byte or by the length of a line.
+`judge` says what is wrong with an answer: that its status does not come of such arguments, or that the printed text
+has none of the forms of that status. It knows the forms, not the right answer: of the files it looks only at what is
+told by a byte or by the length of a line.
 """
 import os
 import re
@@ -14,8 +14,8 @@ USAGE = b"""usage: align decide LEFT F RIGHT G [ADMIT TESTS]
        align sample N
 """
 MOST_BYTES = 16777216
-FUNCTION_KINDS = ("not-utf8 line-long no-function twice-label data-in-body unknown-instruction pool-refused bad-operand "
-                  "bad-number unknown-label too-many-insns falls-off").split()
+FUNCTION_KINDS = ("not-utf8 line-long no-function twice-label data-in-body unknown-instruction pool-refused "
+                  "bad-operand bad-number unknown-label too-many-insns falls-off").split()
 # for each command the number of plain arguments, the options with their ranges, and which plain arguments name files
 COMMANDS = {"decide": (4, {}, {"left": 0, "right": 2}),
             "run": (4, {"steps": (1, 65536)}, {"left": 0, "admit": 2, "tests": 3}),
@@ -25,13 +25,15 @@ WIDTHS = {8: "al cl dl bl spl bpl sil dil".split(), 16: "ax cx dx bx sp bp si di
 NUMBER = r"(?:0|[1-9][0-9]*)"
 VALUE = r"0x(?:0|[1-9a-f][0-9a-f]*)"
 REGISTERS = {f"%{name}": width for width, names in WIDTHS.items() for name in names}
-REGISTERS.update({f"%r{n}{end}": width for n in range(8, 16) for end, width in (("b", 8), ("w", 16), ("d", 32), ("", 64))})
+REGISTERS.update({f"%r{n}{end}": width for n in range(8, 16)
+                  for end, width in (("b", 8), ("w", 16), ("d", 32), ("", 64))})
 
 EQUIVALENT = re.compile(rf"equivalent\nnodes 2\nedges 1\nbound ({NUMBER})\ntests none\n".encode())
 DIFFERENT = re.compile((rf"different\nsource found\nleft returned ({NUMBER})\nright returned ({NUMBER})\n"
-                        rf"differs %rax ({VALUE}) ({VALUE})\nstate\n(?:reg (?:rax|rcx|rdx|rbx|rbp|rsi|rdi|r8|r9|r1[0-5])"
-                        r" 0x1\n)?").encode())
-TEST = re.compile(rf"test ({NUMBER}) (?:(returned|faulted|unset) ({NUMBER})|(running|not-admitted|large|byte-outside))")
+                        rf"differs %rax ({VALUE}) ({VALUE})\nstate\n"
+                        r"(?:reg (?:rax|rcx|rdx|rbx|rbp|rsi|rdi|r8|r9|r1[0-5]) 0x1\n)?").encode())
+TEST = re.compile(rf"test ({NUMBER}) "
+                  rf"(?:(returned|faulted|unset) ({NUMBER})|(running|not-admitted|large|byte-outside))")
 OUTPUT = re.compile(rf"(%[a-z0-9]+) (?:({VALUE})|([0-9a-f]+))")
 MEMORY = re.compile(rf"mem ({VALUE}) ((?:[0-9a-f][0-9a-f]){{1,32}})")
 REFUSED = re.compile(rf"refused (left|right) line ({NUMBER}) ({'|'.join(FUNCTION_KINDS)}|not-plain)\n"
@@ -42,7 +44,7 @@ SHOWN = re.compile(rf"([* ]) ({NUMBER}) ([a-z0-9]+)(?: ([-$%@(),a-z0-9]+))?")
 
 
 def command_of(words):
-    """The plain arguments and options of a command, as (name, plain, options), or None where the arguments are none."""
+    """The name, plain arguments and options of a command, or None where the arguments are none."""
     try:
         texts = [word.decode() for word in words]
     except UnicodeDecodeError:
@@ -62,7 +64,9 @@ def command_of(words):
         name, equals, value = word.partition("=")
         if not equals:
             value = rest.pop(0) if rest and not rest[0].startswith("-") else ""
-        if not name.startswith("--") or name[2:] not in known or name in options or not is_number(value, known[name[2:]]):
+        if not name.startswith("--") or name[2:] not in known or name in options:
+            return None
+        if not is_number(value, known[name[2:]]):
             return None
         options[name] = int(value)
     return (texts[0], plain, options) if len(plain) == count else None
@@ -79,7 +83,8 @@ def judge(words, status, printed, errors, texts):
         return "something on standard error"
     command = command_of(words)
     if status == 4 or command is None:
-        return None if status == 4 and command is None and printed == USAGE else "usage where there is a command, or none"
+        is_right = status == 4 and command is None and printed == USAGE
+        return None if is_right else "usage where there is a command, or none"
     if status == 5:
         if printed:
             return "printed with status 5"
@@ -145,13 +150,15 @@ def is_memory(line):
 def judge_show(command, printed):
     """What is wrong with a shown function, or None."""
     lines = printed.decode("ascii", "replace").split("\n")
-    if len(lines) < 4 or lines[-1] or lines[0] != f"function {command[1][1]}" or lines[1] != f"insns {len(lines) - 3}":
+    head = [f"function {command[1][1]}", f"insns {len(lines) - 3}"]
+    if len(lines) < 4 or lines[-1] or lines[:2] != head:
         return "no head of a shown function"
     if len(lines) - 3 > 4096:
         return "more than 4,096 instructions"
     for place, line in enumerate(lines[2:-1]):
         found = SHOWN.fullmatch(line)
-        if not found or int(found.group(2)) != place or (found.group(1) == "*") < (place == 0 or found.group(3) == "ret"):
+        is_cut = place == 0 or bool(found) and found.group(3) == "ret"
+        if not found or int(found.group(2)) != place or is_cut and found.group(1) != "*":
             return f"no line of a shown function: {line[:80]}"
         operands = found.group(4) or ""
         if operands.startswith("@") and not int(operands[1:]) < len(lines) - 3:
@@ -177,9 +184,12 @@ def judge_refusal(command, printed, texts):
         return "a wrong size"
     if side in ("left", "right"):
         return judge_line(kind, int(found.group(2)), text)
+    if side == "admit" and kind == "large":
+        return None
     if side == "admit":
-        return None if (int(found.group(5)) == 0) == (kind == "no-live") and int(found.group(5)) <= 1 + text.count(b"\n") \
-            else "a wrong line of an admission"
+        line = int(found.group(5))
+        is_right = (line == 0) == (kind == "no-live") and line <= 1 + text.count(b"\n")
+        return None if is_right else "a wrong line of an admission"
     tested = found.group(11)
     named = kind in ("bad-shape", "too-many-bytes")
     return None if (tested is not None) == named and (not named or int(tested) <= 64) and (
@@ -196,7 +206,8 @@ def judge_line(kind, line, text):
     try:
         text.decode()
     except UnicodeDecodeError as error:
-        return None if kind == "not-utf8" and line == 1 + text.count(b"\n", 0, error.start) else "not-utf8 was to be told"
+        is_right = kind == "not-utf8" and line == 1 + text.count(b"\n", 0, error.start)
+        return None if is_right else "not-utf8 was to be told"
     long = first_long_line(text)
     if kind == "not-utf8" or (kind == "line-long") != (long is not None) or long not in (None, line):
         return "not-utf8 or line-long at a wrong place"
@@ -230,4 +241,5 @@ def kind_of(words, status, printed):
             return f"3  refused {'function' if side in ('left', 'right') else side} {refusal_kind(found)}"
     names = {0: {"decide": "equivalent", "run": "runs", "show": "shown function"}, 1: {"decide": "different"}}
     name = words[0].decode("ascii", "replace") if words else ""
-    return f"{status}  " + ({4: "usage", 5: "a file could not be taken"}.get(status) or names.get(status, {}).get(name, "?"))
+    others = {4: "usage", 5: "a file could not be taken"}
+    return f"{status}  " + (others.get(status) or names.get(status, {}).get(name, "?"))
