@@ -1,13 +1,14 @@
 #!/usr/bin/env python3
 """Gives the program random, mutated and odd functions, admissions, tests and arguments, and judges each answer.
 
-    python3 tests/hostile.py COUNT [--seed N] [--first K] [--keep FOLDER]
+    python3 tests/hostile.py COUNT [--seed N] [--first K] [--milliseconds M] [--keep FOLDER]
 
 Runs `align run`, `align decide` and `align show` COUNT times. Each has to end without a signal, within 10 s, with an
-answer or a named refusal whose text has one of the forms of its status (tests/report_forms.py), and within 50 ms: a
-run above that is done again, up to five times, and the least time counts. The inputs follow from the seed (1) and the
-number of the run alone, so `--first K 1` does run K again. The environment variable ALIGN names the program. The files
-and arguments of each failure are kept in a folder of their own, below FOLDER. Exit status 1 where there is one.
+answer or a named refusal whose text has one of the forms of its status (tests/report_forms.py), and within M (50) ms,
+or five times that where its files have more than 1 MiB: a run above that is done again, up to five times, and the
+least time counts. The inputs follow from the seed (1) and the number of the run alone, so `1 --first K` does run K
+again. The environment variable ALIGN names the program. The files and arguments of each failure are kept in a folder
+of their own, below FOLDER. Exit status 1 where there is one.
 """
 import argparse
 import collections
@@ -24,7 +25,7 @@ sys.path.insert(0, os.path.dirname(os.path.abspath(__file__)))
 import hostile_inputs  # noqa: E402
 import report_forms  # noqa: E402
 
-MOST_SECONDS = 0.05
+LARGE = 5  # how many times as long a run may take whose files have more than 1 MiB
 HANG_SECONDS = 10
 
 
@@ -130,7 +131,7 @@ class Tally:
         for word, tests in sorted(self.tests.items()):
             print(f"   {'test ' + word:<39}{tests:>9}")
         print(f"runs {count}, failures {self.failures}, in {seconds:.0f} s")
-        print(f"done again as they took above {MOST_SECONDS * 1000:.0f} ms: {self.again}; "
+        print(f"done again as they took too long at first: {self.again}; "
               f"slowest {self.slowest[0] * 1000:.1f} ms (run {self.slowest[1]})")
 
 
@@ -140,14 +141,15 @@ def one(inputs, runner, tally, options, number, before):
     write(files, before)
     result = runner.run(words)
     why = judge(words, files, result)
-    if not why and result[3] > MOST_SECONDS:
+    most = options.milliseconds / 1000 * (LARGE if sum(map(len, files.values())) > 1 << 20 else 1)
+    if not why and result[3] > most:
         tally.again += 1
         for _ in range(5):
             result = min(result, runner.run(words), key=lambda it: it[3])
-            if result[3] <= MOST_SECONDS:
+            if result[3] <= most:
                 break
         why = judge(words, files, result)
-        if not why and result[3] > MOST_SECONDS:
+        if not why and result[3] > most:
             why = f"{result[3] * 1000:.0f} ms"
     tally.add(number, words, result)
     if why:
@@ -159,10 +161,12 @@ def one(inputs, runner, tally, options, number, before):
 
 def main():
     """Does the runs and prints the table."""
-    parser = argparse.ArgumentParser(usage="hostile.py COUNT [--seed N] [--first K] [--keep FOLDER]")
+    usage = "hostile.py COUNT [--seed N] [--first K] [--milliseconds M] [--keep FOLDER]"
+    parser = argparse.ArgumentParser(usage=usage)
     parser.add_argument("count", type=int)
     parser.add_argument("--seed", type=int, default=1)
     parser.add_argument("--first", type=int, default=1)
+    parser.add_argument("--milliseconds", type=int, default=50)
     parser.add_argument("--keep", default=os.path.join(tempfile.gettempdir(), "hostile_failures"))
     options = parser.parse_args()
     options.keep = os.path.abspath(options.keep)

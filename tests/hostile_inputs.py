@@ -52,10 +52,10 @@ ODD_WORDS = [b"", b"-", b"--", b"---", b"-a", b"--steps", b"--steps=", b"--steps
              b"--steps=65537", b"--steps=007", b"--steps=+5", b"--steps=0x5", b"--steps=-1", b"--steps=" + b"9" * 21,
              b"--steps=5=5", b"--step=5", b"--cert=a", b"--cert", b"--budget=5", b"--help", b"-h", b"--version", b"-V",
              b"--=", b"-5", b"5", b"0", b"\xff", b"a\xff", b"\xed\xa0\x80", b"\xef\xbb\xbf", b"f ", b" f", b"\n",
-             b"a\nb", b"%s%n", b"*", b"help", b"sample", b"check", b"decide", b"run", b"show", b"chain", b"\x01", "é".encode(),
-             b"x" * 5000, b"=", b"--=5"]
+             b"a\nb", b"%s%n", b"*", b"help", b"sample", b"check", b"decide", b"run", b"show", b"chain", b"\x01",
+             "é".encode(), b"x" * 5000, b"=", b"--=5"]
 ODD_FILES = [b"missing", b"folder", b"folder/", b"l/", b"l/l", b".", b"..", b"/", b"/dev/null", b"loop", b"x" * 300,
-             b"a/" * 2000 + b"b", b"./l", b"locked/x", b"\xc3\xa9"]
+             b"a/" * 2000 + b"b", b"./l", b"\xc3\xa9"]
 ODD_NAMES = [b".L1", b".L3", b"main", b"F", b"ff", b"$", b"f:", b"f,", b"_", b".size", b"\xc3\xa9", b"f" * 4096, b"1",
              b"f g", b"%rax"]
 
@@ -76,25 +76,39 @@ class Inputs:
         files = {b"l": self.function(rng, b"f")}
         name = b"f" if rng.random() < 0.95 else rng.choice(ODD_NAMES)
         if command == "decide":
-            files[b"r"] = self.function(rng, b"g")
+            files[b"r"] = self.partner(rng, files[b"l"]) if rng.random() < 0.5 else self.function(rng, b"g")
             words = [b"decide", b"l", name, b"r", b"g"]
         elif command == "run":
             files[b"a"], files[b"t"] = self.admission(rng), self.test_file(rng)
             words = [b"run", b"l", name, b"a", b"t"]
-            if rng.random() < 0.3:
+            if files[b"t"].count(b"{") > 40:
+                words += [b"--steps", b"1000"]  # many tests: a run's time is that of its steps
+            elif rng.random() < 0.3:
                 words.insert(rng.randrange(1, 6), b"--steps=%d" % rng.choice([1, 2, 5, 100, 20000, 30000]))
         else:
             words = [b"show", b"l", name]
         if rng.random() < 0.12:
             words = change_words(rng, words)
+        if rng.random() < 0.0003:
+            files[rng.choice(list(files))] = rng.choice([b"\n", b"\x00", b"#"]) * (16777216 + rng.randrange(2))
         return words, files
+
+    def partner(self, rng, text):
+        """A right function for a left one: the same in another order of its lines, or a mutation of it."""
+        lines = text.replace(b"f:", b"g:").split(b"\n")
+        place = rng.randrange(len(lines))
+        if rng.random() < 0.6:
+            lines[1:place] = rng.sample(lines[1:place], max(place - 1, 0))
+            return b"\n".join(lines)
+        return self.mutated(rng, b"\n".join(lines), ODD_LINES)
 
     def function(self, rng, name):
         """A text of a function: an example's, a plain one, a random one, or a mutation of these."""
         kind = rng.random()
         if kind < 0.3:
             text = rng.choice(self.functions)
-            text = text.replace(b"f:", name + b":") if rng.random() < 0.5 else text.replace(b"g:", name + b":")
+            if rng.random() < 0.9:
+                text = text.replace(b"f:", name + b":").replace(b"g:", name + b":")
         elif kind < 0.65:
             text = name + b":\n" + plain_body(rng)
         else:
@@ -244,7 +258,7 @@ def flip(_, rng, text, odd):
     """One to eight bytes replaced."""
     changed = bytearray(text)
     for _ in range(rng.choice([1, 2, 8]) if changed else 0):
-        byte = rng.choice([rng.randrange(256), rng.randrange(32, 127), 0, 10, 13, 32, 255])
+        byte = rng.choice([rng.randrange(256), 0, 10, 13, 32, 9] + [rng.randrange(32, 127) for _ in range(6)])
         changed[rng.randrange(len(changed))] = byte
     return bytes(changed)
 

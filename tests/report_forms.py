@@ -118,15 +118,38 @@ def judge_run(command, printed):
     """What is wrong with a report of runs, or None."""
     if printed and not printed.endswith(b"\n"):
         return "a line without its end"
-    steps, last, returned = command[2].get("--steps", 20000), 0, False
+    steps, tests = command[2].get("--steps", 20000), []
     for line in printed.decode("ascii", "replace").splitlines():
         found = TEST.fullmatch(line)
-        if found:
-            last, returned = last + 1, found.group(2) == "returned"
-            if int(found.group(1)) != last or last > 64 or found.group(3) and not 1 <= int(found.group(3)) <= steps:
-                return f"a number in the line {line[:80]}"
-        elif not returned or not is_output(line) and not is_memory(line):
-            return f"no line of a report: {line[:80]}"
+        if not found and not tests:
+            return "a report that begins with no test"
+        if not found:
+            tests[-1][1].append(line)
+            continue
+        tests.append((found.group(2) == "returned", []))
+        if int(found.group(1)) != len(tests) or found.group(3) and not 1 <= int(found.group(3)) <= steps:
+            return f"a number in the line {line[:80]}"
+    return judge_tests(tests)
+
+
+def judge_tests(tests):
+    """What is wrong with the lines behind those of the tests, each with whether it returned and its lines, or None."""
+    if len(tests) > 64:
+        return "more than 64 tests"
+    live = None
+    for returned, lines in tests:
+        outputs = [line.split(" ")[0] for line in lines if not line.startswith("mem ")]
+        if not returned and lines or not all(is_output(line) for line in lines[:len(outputs)]):
+            return f"no lines of a test: {lines[:3]}"
+        end = 0
+        for line in lines[len(outputs):]:
+            found = MEMORY.fullmatch(line)
+            if not found or int(found.group(1), 16) < end:
+                return f"no line of memory, or none in its place: {line[:80]}"
+            end = int(found.group(1), 16) + len(found.group(2)) // 2
+        if end > 1 << 64 or returned and live not in (None, outputs):
+            return "memory above its end, or other outputs than of the test before"
+        live = outputs if returned else live
     return None
 
 
@@ -139,12 +162,6 @@ def is_output(line):
         vector = re.fullmatch(r"%([xy])mm([0-9]|1[0-5])", found.group(1))
         return bool(vector) and len(found.group(3)) == (32 if vector.group(1) == "x" else 64)
     return found.group(1) in REGISTERS and int(found.group(2), 16) < 1 << REGISTERS[found.group(1)]
-
-
-def is_memory(line):
-    """Whether a line tells bytes of memory."""
-    found = MEMORY.fullmatch(line)
-    return bool(found) and int(found.group(1), 16) + len(found.group(2)) // 2 <= 1 << 64
 
 
 def judge_show(command, printed):
