@@ -5,7 +5,7 @@
 
 Runs `align run`, `align decide` and `align show` COUNT times. Each has to end without a signal, within 10 s, with an
 answer or a named refusal whose text has one of the forms of its status (tests/report_forms.py), and within M (50) ms,
-or five times that where its files have more than 1 MiB: a run above that is done again, up to five times, and the
+or 40 times that where its files have more than 1 MiB: a run above that is done again, up to five times, and the
 least time counts. The inputs follow from the seed (1) and the number of the run alone, so `1 --first K` does run K
 again. The environment variable ALIGN names the program. The files and arguments of each failure are kept in a folder
 of their own, below FOLDER. Exit status 1 where there is one.
@@ -25,7 +25,7 @@ sys.path.insert(0, os.path.dirname(os.path.abspath(__file__)))
 import hostile_inputs  # noqa: E402
 import report_forms  # noqa: E402
 
-LARGE = 5  # how many times as long a run may take whose files have more than 1 MiB
+LARGE = 40  # how many times as long a run may take whose files have more than 1 MiB
 HANG_SECONDS = 10
 
 
@@ -110,14 +110,14 @@ class Tally:
 
     def __init__(self):
         self.answers, self.tests = collections.Counter(), collections.Counter()
-        self.slowest, self.again, self.failures = (0, None), 0, 0
+        self.slowest, self.again, self.failures = {False: (0, None), True: (0, None)}, 0, 0
 
-    def add(self, number, words, result):
+    def add(self, number, words, result, is_large):
         """Counts an answer."""
         status, printed, _, seconds = result
         kind = report_forms.kind_of(words, status, printed)
         self.answers[kind] += 1
-        self.slowest = max(self.slowest, (seconds, number))
+        self.slowest[is_large] = max(self.slowest[is_large], (seconds, number))
         if kind == "0  runs":
             for line in printed.splitlines():
                 if line.startswith(b"test "):
@@ -132,7 +132,8 @@ class Tally:
             print(f"   {'test ' + word:<39}{tests:>9}")
         print(f"runs {count}, failures {self.failures}, in {seconds:.0f} s")
         print(f"done again as they took too long at first: {self.again}; "
-              f"slowest {self.slowest[0] * 1000:.1f} ms (run {self.slowest[1]})")
+              f"slowest {self.slowest[False][0] * 1000:.1f} ms (run {self.slowest[False][1]}), "
+              f"with files above 1 MiB {self.slowest[True][0] * 1000:.1f} ms (run {self.slowest[True][1]})")
 
 
 def one(inputs, runner, tally, options, number, before):
@@ -141,7 +142,8 @@ def one(inputs, runner, tally, options, number, before):
     write(files, before)
     result = runner.run(words)
     why = judge(words, files, result)
-    most = options.milliseconds / 1000 * (LARGE if sum(map(len, files.values())) > 1 << 20 else 1)
+    is_large = sum(map(len, files.values())) > 1 << 20
+    most = options.milliseconds / 1000 * (LARGE if is_large else 1)
     if not why and result[3] > most:
         tally.again += 1
         for _ in range(5):
@@ -151,7 +153,7 @@ def one(inputs, runner, tally, options, number, before):
         why = judge(words, files, result)
         if not why and result[3] > most:
             why = f"{result[3] * 1000:.0f} ms"
-    tally.add(number, words, result)
+    tally.add(number, words, result, is_large)
     if why:
         tally.failures += 1
         if tally.failures <= 100:
