@@ -199,10 +199,10 @@ def judge_refusal(command, printed, texts):
         return None
     if (kind == "large") != (len(text) > MOST_BYTES) or kind == "large" and found.group(9) != str(MOST_BYTES + 1):
         return "a wrong size"
+    if kind == "large":
+        return None
     if side in ("left", "right"):
         return judge_line(kind, int(found.group(2)), text)
-    if side == "admit" and kind == "large":
-        return None
     if side == "admit":
         line = int(found.group(5))
         is_right = (line == 0) == (kind == "no-live") and line <= 1 + text.count(b"\n")
@@ -215,8 +215,6 @@ def judge_refusal(command, printed, texts):
 
 def judge_line(kind, line, text):
     """What is wrong with the line and kind of a refusal of a function's text, or None."""
-    if kind == "large":
-        return None
     count = text.count(b"\n") + (not text.endswith(b"\n") and text != b"")
     if (line == 0) != (kind == "no-function") or line > max(count, 1):
         return "a wrong line of a function's text"
