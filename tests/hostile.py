@@ -175,6 +175,7 @@ def main():
     program = os.path.abspath(os.environ.get("ALIGN", os.path.join(hostile_inputs.ROOT, "crates/align/out/align")))
     if not os.access(program, os.X_OK):
         sys.exit(f"no program {program}: build it first (rt ci), or name it in ALIGN")
+    signal.signal(signal.SIGTERM, lambda *_: sys.exit(143))
     inputs, tally, start = hostile_inputs.Inputs(), Tally(), time.monotonic()
     folder = tempfile.mkdtemp(dir="/dev/shm" if os.path.isdir("/dev/shm") else None)
     try:
