@@ -1,0 +1,158 @@
+#!/usr/bin/env python3
+"""Lets align read what compilers make of loops over integers in C.
+
+    tests/against_compilers.py [COUNT] [--seed N]
+
+COUNT loops (240; loop_sources.py makes them) are compiled by gcc and clang at -O1, -O2 and -O3, with and without -mavx2,
+with and without -fcf-protection=none. Each function is read by `align show`. It prints how many were read, and the
+refusals by kind, class and mnemonic. A refusal that is no class of what the table leaves out has to be mended: the
+status is 1 where there is one.
+"""
+import argparse
+import collections
+import itertools
+import pathlib
+import random
+import re
+import shutil
+import subprocess
+import sys
+import tempfile
+
+import insn_rows
+import loop_sources
+import run_files
+
+TABLE = {row[0] for row in insn_rows.rows()} | {row[0] for row in insn_rows.vector_rows()}
+MEND = "to be mended"
+LATER = "a constant of the pool (later)"
+
+# classes of mnemonics that the table leaves out
+CLASSES = [
+    ("vectors under names of floating point", r"v?(mov|shuf|unpck[lh]|blend|blendv|perm|permil|broadcast|insert|extract|test|"
+                                              r"maskmov|movmsk|movh|movl|movhl|movlh|movsh|movsl|and|andn|or|xor)(ps|pd|ss|sd)"),
+    ("vectors under names of floating point", r"v?(mov[aulh]p[sd]|mov(hl|lh)ps|movddup|movs[lh]dup|(insert|extract|perm2)f128|"
+                                              r"broadcastf128|mov(msk|nt)p[sd]|andn?pd|x?orpd|shufp[sd]|unpck[lh]p[sd])"),
+    ("floating point", r"v?(u?comi|cvt|add|sub|mul|div|sqrt|min|max|cmp|round|fn?m)\w*(ss|sd|ps|pd|dq|pi|si|sil|siq)"),
+    ("vectors that are left out", r"vp\w+|vpcmp\w+|vextract\w+|vinsert\w+|vbroadcasti128|vzeroall|v?lddqu|v?movntdqa?"),
+    ("vectors that are left out", r"p(insr|extr|blend|mul|min|max|abs|shuf|cmp|mov|align|ack|hadd|sign|test|s[lr]l|sra)\w*"),
+    ("division", r"i?div[bwlq]|cltd|cqto|cwtd"),
+    ("products of two registers' width", r"mul[bwlq]|mulx[lq]"),
+    ("carries and single bits", r"adc[bwlq]|sbb[bwlq]|bt[rsc]?[wlq]|cmc|stc|clc"),
+    ("rotations and double shifts", r"ro[lr][bwlq]|sh[lr]d[wlq]|sh[lr]x[lq]|sarx[lq]|rorx[lq]"),
+    ("counts of bits and bytes in other orders", r"bs[fr][wlq]|[tl]zcnt\w*|popcnt[wlq]|bswap[lq]|andn[lq]|bls\w+|movbe\w+"),
+    ("calls", r"callq?|leaveq?"),
+    ("widening of %al, %ax and %rax by the sign", r"cwtl|cbtw"),
+    ("strings", r"rep|repz|repnz|stos[bwlq]|movs[bwlq]|lods[bwlq]|scas[bwlq]"),
+    ("exchanges", r"xchg[bwlq]|cmpxchg\w*|xadd\w*"),
+    ("traps", r"ud2|int3|hlt"),
+    ("longer forms of nop", r"nop[wl]|data16|xchg"),
+]
+
+
+def class_of(kind, statement):
+    """The class of a refusal, by its kind and the statement of its line."""
+    mnemonic, _, rest = statement.partition(" ")
+    if kind == "pool-refused":
+        return LATER if re.search(r"\.LC\w*([+-]\d+)?\(", rest) else "memory of a name"
+    if kind == "unknown-instruction" and mnemonic not in TABLE:
+        for name, pattern in CLASSES:
+            if re.fullmatch(pattern, mnemonic):
+                return name
+        return "other instructions"
+    if kind == "bad-operand":
+        if re.match(r"(v?ps|sh|sa|ro)[lr]\w+ %", statement) and "," in rest:
+            return "shifts by a register"
+        if mnemonic in ("imull", "imulq", "imulw") and "," not in rest:
+            return "products of two registers' width"
+        if re.search(r"%[abcd]h\b", rest):
+            return "high bytes of registers"
+        if mnemonic == "jmp" and rest.startswith("*"):
+            return "jumps through a table"
+        if re.search(r"%[c-g]s:", rest):
+            return "segments"
+        if mnemonic in ("pushq", "popq"):
+            return "other operands of push and pop"
+        if re.search(r"(^|,)\$?[A-Za-z_.][\w.]*([+-]\d+)?(\(|,|$)", rest):
+            return "addresses of names"
+    return MEND
+
+
+class Tally:
+    """What was read, and what was refused and why."""
+
+    def __init__(self):
+        self.read, self.instructions = collections.Counter(), 0
+        self.kinds, self.classes, self.words = (collections.Counter() for _ in range(3))
+        self.mend = collections.defaultdict(list)
+
+    def add(self, setting, name, shown, lines):
+        if shown.insns is not None:
+            self.read[setting] += 1
+            self.instructions += len(shown.insns)
+            return
+        statement = " ".join(lines[shown.line - 1].split()) if shown.line else ""
+        why = class_of(shown.kind, statement)
+        self.kinds[shown.kind] += 1
+        self.classes[why] += 1
+        if shown.kind == "unknown-instruction":
+            self.words[statement.partition(" ")[0]] += 1
+        if why == MEND:
+            key = (shown.kind, statement.partition(" ")[0])
+            self.mend[key].append(f"{' '.join(setting)} {name} line {shown.line}: {statement}")
+
+    def report(self, tried):
+        print(f"functions {tried}, read {sum(self.read.values())}, refused {sum(self.kinds.values())}; "
+              f"instructions read {self.instructions}")
+        print("read, by compiler and options:")
+        for setting, n in sorted(self.read.items()):
+            print(f"  {' '.join(setting)}: {n}")
+        for title, counter, most in (("kind", self.kinds, None), ("class", self.classes, None), ("unknown mnemonic", self.words, 25)):
+            print(f"refused, by {title}:")
+            for what, n in counter.most_common(most):
+                print(f"  {what}: {n}")
+        print(f"{MEND}: {sum(len(cases) for cases in self.mend.values())}")
+        for (kind, word), cases in sorted(self.mend.items(), key=lambda item: -len(item[1]))[:5]:
+            print(f"  {kind} {word}: {len(cases)}, as {cases[0]}")
+
+
+def compiled(setting, source, target):
+    """The lines of what a compiler makes of a source, or none where it fails."""
+    run = subprocess.run(list(setting) + ["-S", "-w", str(source), "-o", str(target)], capture_output=True, text=True)
+    if run.returncode:
+        print(f"not compiled: {' '.join(setting)}: {run.stderr.strip().splitlines()[:1]}")
+        return None
+    return target.read_text().split("\n")
+
+
+def main():
+    parser = argparse.ArgumentParser()
+    parser.add_argument("count", type=int, nargs="?", default=240)
+    parser.add_argument("--seed", type=int, default=1)
+    options = parser.parse_args()
+    compilers = [name for name in ("gcc", "clang") if shutil.which(name)]
+    for name in {"gcc", "clang"} - set(compilers):
+        print(f"skipped: no {name}")
+    if not compilers:
+        sys.exit(0)
+    run_files.need_align()
+    loops = loop_sources.loops(random.Random(options.seed), options.count)
+    tally, tried, broken = Tally(), 0, 0
+    with tempfile.TemporaryDirectory() as name:
+        source, target = pathlib.Path(name) / "loops.c", pathlib.Path(name) / "loops.s"
+        for start in range(0, len(loops), 10):
+            part = loops[start:start + 10]
+            source.write_text(loop_sources.HEAD + "".join(text for *_, text in part))
+            for setting in itertools.product(compilers, ("-O1", "-O2", "-O3"), ("-mavx2", ""), ("-fcf-protection=none", "")):
+                setting = tuple(word for word in setting if word)
+                lines = compiled(setting, source, target)
+                broken += lines is None
+                for _, function, _ in part if lines else []:
+                    tried += 1
+                    tally.add(setting, function, run_files.show_file(target, function), lines)
+    tally.report(tried)
+    sys.exit(1 if tally.mend or broken else 0)
+
+
+if __name__ == "__main__":
+    main()
