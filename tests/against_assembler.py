@@ -3,11 +3,11 @@
 
     tests/against_assembler.py [COUNT] [--seed N]
 
-The texts are one function of each form of each instruction of the table, with the numbers at the edges of their ranges;
-COUNT random functions (300); as many statements of these with a random change; and the lists of odd_texts.py. A text
-that both take is read by `align show`; what it prints, with labels in place of `@` and a place, is assembled again, and
-the bytes have to be those of the text. And what objdump writes of these bytes is read by `align show` again, which has
-to print the same. So the instruction that align has read is the one that the assembler has encoded.
+The texts are one function of each form of each instruction of the table, with the numbers at the edges of their
+ranges; COUNT random functions (300); as many statements of these with a random change; and the lists of odd_texts.py.
+A text that both take is read by `align show`; what it prints, with labels in place of `@` and a place, is assembled
+again, and the bytes have to be those of the text. And what objdump writes of these bytes is read by `align show` again,
+which has to print the same. So the instruction that align has read is the one that the assembler has encoded.
 
 It prints figures, and what disagrees. The status is 1 where there is a disagreement that no list names.
 """
@@ -59,8 +59,8 @@ def written_one_way(insns):
 
 
 def round_trips(what, texts, folder):
-    """The texts, which align and the assembler both have to take, printed and assembled again, and disassembled and read
-    again. The categories that are encoded otherwise, with their numbers."""
+    """The texts, which align and the assembler both have to take, printed and assembled again, and disassembled and
+    read again. The categories that are encoded otherwise, with their numbers."""
     found, chosen = collections.Counter(), []
     shown = run_files.show_all(texts, folder)
     plain = [function_text.plainly_spelled(text) for _, text in texts]
@@ -73,8 +73,10 @@ def round_trips(what, texts, folder):
             fail(f"{what}: the assembler refuses", text, codes[k].messages)
         else:
             chosen.append(k)
-    again = run_files.assembled([(texts[k][0], run_files.text_of(texts[k][0], shown[k].insns)) for k in chosen], folder)
-    plains = run_files.assembled([(texts[k][0], plain[k][0]) for k in chosen], folder)
+    names = [texts[k][0] for k in chosen]
+    printed = [run_files.text_of(name, shown[k].insns) for name, k in zip(names, chosen)]
+    again = run_files.assembled(list(zip(names, printed)), folder)
+    plains = run_files.assembled([(name, plain[k][0]) for name, k in zip(names, chosen)], folder)
     for k, code, plain_code in zip(chosen, again, plains):
         name, text = texts[k]
         if code.bytes is None or code.bytes != plain_code.bytes:
@@ -182,9 +184,12 @@ def main():
     with tempfile.TemporaryDirectory() as folder:
         forms = [(f"f{k}", function_text.one_instruction(f"f{k}", statement)) for k, statement in enumerate(pool)]
         for far in (False, True):
-            forms += [(f"j{far:d}{k}", function_text.one_jump(f"j{far:d}{k}", word, far)) for k, word in enumerate(jumps)]
+            for k, word in enumerate(jumps):
+                forms.append((f"j{far:d}{k}", function_text.one_jump(f"j{far:d}{k}", word, far)))
         found = round_trips("forms", forms, folder)
-        functions = [(f"r{k}", function_text.RandomFunction(draw, f"r{k}", pool, jumps).text()) for k in range(options.count)]
+        functions = []
+        for k in range(options.count):
+            functions.append((f"r{k}", function_text.RandomFunction(draw, f"r{k}", pool, jumps).text()))
         found += round_trips("random functions", functions, folder)
         print("encoded otherwise, functions with")
         for category, n in sorted(found.items()):

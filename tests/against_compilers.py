@@ -3,9 +3,9 @@
 
     tests/against_compilers.py [COUNT] [--seed N]
 
-COUNT loops (240; loop_sources.py makes them) are compiled by gcc and clang at -O1, -O2 and -O3, with and without -mavx2,
-with and without -fcf-protection=none. Each function is read by `align show`. It prints how many were read, and the
-refusals by kind, class and mnemonic. A refusal that is no class of what the table leaves out has to be mended: the
+COUNT loops (240; loop_sources.py makes them) are compiled by gcc and clang at -O1, -O2 and -O3, with and without
+-mavx2, with and without -fcf-protection=none. Each function is read by `align show`. It prints how many were read, and
+the refusals by kind, class and mnemonic. A refusal that is no class of what the table leaves out has to be mended: the
 status is 1 where there is one.
 """
 import argparse
@@ -29,18 +29,21 @@ LATER = "a constant of the pool (later)"
 
 # classes of mnemonics that the table leaves out
 CLASSES = [
-    ("vectors under names of floating point", r"v?(mov|shuf|unpck[lh]|blend|blendv|perm|permil|broadcast|insert|extract|test|"
-                                              r"maskmov|movmsk|movh|movl|movhl|movlh|movsh|movsl|and|andn|or|xor)(ps|pd|ss|sd)"),
-    ("vectors under names of floating point", r"v?(mov[aulh]p[sd]|mov(hl|lh)ps|movddup|movs[lh]dup|(insert|extract|perm2)f128|"
-                                              r"broadcastf128|mov(msk|nt)p[sd]|andn?pd|x?orpd|shufp[sd]|unpck[lh]p[sd])"),
-    ("floating point", r"v?(u?comi|cvt|add|sub|mul|div|sqrt|min|max|cmp|round|fn?m)\w*(ss|sd|ps|pd|dq|pi|si|sil|siq)"),
-    ("vectors that are left out", r"vp\w+|vpcmp\w+|vextract\w+|vinsert\w+|vbroadcasti128|vzeroall|v?lddqu|v?movntdqa?"),
-    ("vectors that are left out", r"p(insr|extr|blend|mul|min|max|abs|shuf|cmp|mov|align|ack|hadd|sign|test|s[lr]l|sra)\w*"),
+    ("vectors under names of floating point",
+     r"v?(mov|shuf|unpck[lh]|blend|blendv|perm|permil|broadcast|insert|extract|test|maskmov|movmsk|movh|movl|movhl|"
+     r"movlh|mov[au]|movnt|movsh|movsl|and|andn|or|xor)(ps|pd|ss|sd)|v?mov(ddup|s[lh]dup)|"
+     r"v(insert|extract|perm2|broadcast)f128"),
+    ("floating point",
+     r"v?(u?comi|cvt|add|sub|mul|div|sqrt|min|max|cmp|round|fn?m)\w*(ss|sd|ps|pd|dq|pi|si|sil|siq)"),
+    ("vectors that are left out",
+     r"vp\w+|vextract\w+|vinsert\w+|vbroadcasti128|vzeroall|v?lddqu|v?movntdqa?|"
+     r"p(insr|extr|blend|mul|min|max|abs|shuf|cmp|mov|align|ack|hadd|sign|test|s[lr]l|sra)\w*"),
     ("division", r"i?div[bwlq]|cltd|cqto|cwtd"),
-    ("products of two registers' width", r"mul[bwlq]|mulx[lq]"),
+    ("products of two registers' width", r"mul[bwlq]|imulb|mulx[lq]"),
     ("carries and single bits", r"adc[bwlq]|sbb[bwlq]|bt[rsc]?[wlq]|cmc|stc|clc"),
     ("rotations and double shifts", r"ro[lr][bwlq]|sh[lr]d[wlq]|sh[lr]x[lq]|sarx[lq]|rorx[lq]"),
-    ("counts of bits and bytes in other orders", r"bs[fr][wlq]|[tl]zcnt\w*|popcnt[wlq]|bswap[lq]|andn[lq]|bls\w+|movbe\w+"),
+    ("counts of bits, and bytes in another order",
+     r"bs[fr][wlq]|[tl]zcnt\w*|popcnt[wlq]|bswap[lq]|andn[lq]|bls\w+|movbe\w+"),
     ("calls", r"callq?|leaveq?"),
     ("widening of %al, %ax and %rax by the sign", r"cwtl|cbtw"),
     ("strings", r"rep|repz|repnz|stos[bwlq]|movs[bwlq]|lods[bwlq]|scas[bwlq]"),
@@ -107,7 +110,8 @@ class Tally:
         print("read, by compiler and options:")
         for setting, n in sorted(self.read.items()):
             print(f"  {' '.join(setting)}: {n}")
-        for title, counter, most in (("kind", self.kinds, None), ("class", self.classes, None), ("unknown mnemonic", self.words, 25)):
+        counters = (("kind", self.kinds, None), ("class", self.classes, None), ("unknown mnemonic", self.words, 25))
+        for title, counter, most in counters:
             print(f"refused, by {title}:")
             for what, n in counter.most_common(most):
                 print(f"  {what}: {n}")
@@ -125,13 +129,19 @@ def compiled(setting, source, target):
     return target.read_text().split("\n")
 
 
+def settings(compilers):
+    """Each compiler with its options."""
+    for words in itertools.product(compilers, ("-O1", "-O2", "-O3"), ("-mavx2", ""), ("-fcf-protection=none", "")):
+        yield tuple(word for word in words if word)
+
+
 def main():
     parser = argparse.ArgumentParser()
     parser.add_argument("count", type=int, nargs="?", default=240)
     parser.add_argument("--seed", type=int, default=1)
     options = parser.parse_args()
     compilers = [name for name in ("gcc", "clang") if shutil.which(name)]
-    for name in {"gcc", "clang"} - set(compilers):
+    for name in sorted({"gcc", "clang"} - set(compilers)):
         print(f"skipped: no {name}")
     if not compilers:
         sys.exit(0)
@@ -143,8 +153,7 @@ def main():
         for start in range(0, len(loops), 10):
             part = loops[start:start + 10]
             source.write_text(loop_sources.HEAD + "".join(text for *_, text in part))
-            for setting in itertools.product(compilers, ("-O1", "-O2", "-O3"), ("-mavx2", ""), ("-fcf-protection=none", "")):
-                setting = tuple(word for word in setting if word)
+            for setting in settings(compilers):
                 lines = compiled(setting, source, target)
                 broken += lines is None
                 for _, function, _ in part if lines else []:

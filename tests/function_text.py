@@ -1,7 +1,7 @@
 """Makes texts of functions: each form of each instruction of the table, random functions, and statements that are odd.
 
-The mnemonics and the forms of those on vectors come from insn_rows.py, which reads them from the table's definitions; the
-forms of general instructions are those of crates/insn_table/specs/Forms.antt.
+The mnemonics and the forms of those on vectors come from insn_rows.py, which reads them from the table's definitions;
+the forms of general instructions are those of crates/insn_table/specs/Forms.antt.
 """
 import itertools
 import re
@@ -74,7 +74,8 @@ def operands_of(kind, w, turn):
     if kind == "i":
         return [f"${n}" for n in numbers(w)]
     if kind == "x":
-        return [f"${n}" for n in (-2**63, -2**31 - 1, -1, 0, 1, 2**31, 2**63 - 1, 2**63, 2**64 - 1)] + ["$0xFfFf0123456789aB"]
+        edges = (-2**63, -2**31 - 1, -1, 0, 1, 2**31, 2**63 - 1, 2**63, 2**64 - 1)
+        return [f"${n}" for n in edges] + ["$0xFfFf0123456789aB"]
     if kind == "c":
         return [f"${n}" for n in sorted({1, 2, w // 2, w - 1})]
     if kind == "m":
@@ -113,7 +114,7 @@ def register_statements():
 
 
 def vector_statements():
-    """A statement of each form of each instruction on vectors, with registers and memory, and controls at the edges."""
+    """A statement of each form of each instruction on vectors, with registers and memory; controls at the edges."""
     seen = set()
     for mnemonic, words in list(insn_rows.vector_rows()) + [("movq", ["Moving", "Movq"])]:
         for w in (128, 256) if mnemonic[0] == "v" else (128,):
@@ -156,8 +157,8 @@ def one_jump(name, mnemonic, far):
 # random functions
 
 # directives that leave the code as it is
-QUIET = [".text", ".ident \"a b\"", ".some_symbol = 4", ".weak some_name", ".hidden some_name", ".loc 1 5 3", ".set a, b",
-         ".section .text"]
+QUIET = [".text", ".ident \"a b\"", ".some_symbol = 4", ".weak some_name", ".hidden some_name", ".loc 1 5 3",
+         ".set a, b", ".section .text"]
 ALIGNING = [".p2align 4,,10", ".p2align 3", ".align 16", ".balign 8", ".p2align 4,0x90"]
 COMMENTS = ["", "", "", " # a comment", "\t# \u00e4 ; ret", "#", " # .L1: ret"]
 
@@ -218,13 +219,15 @@ class RandomFunction:
             if draw.random() < 0.2:
                 yield self.directive()
             start = "".join(label + ":" + draw.choice(("", " ")) for label in labels) if together else ""
-            statement = self.statement() if k < self.size else draw.choice(("ret", "ret", "retq", "jmp " + self.name))
+            ends = ("ret", "ret", "retq", "jmp " + self.name)
+            statement = self.statement() if k < self.size else draw.choice(ends)
             yield start + draw.choice(("\t", "", "  ")) + statement + draw.choice(COMMENTS)
             if draw.random() < 0.1:
                 yield draw.choice(("", "   ", "\t"))
 
     def text(self):
-        head = ["\t.file 1 \"a.c\"", f"\t.type {self.name}, @function", f"{self.name}:"] + (["\t.cfi_startproc"] if self.cfi else [])
+        head = ["\t.file 1 \"a.c\"", f"\t.type {self.name}, @function", f"{self.name}:"]
+        head += ["\t.cfi_startproc"] if self.cfi else []
         tail = (["\t.cfi_endproc"] if self.cfi else []) + [f"\t.size {self.name}, .-{self.name}"]
         if self.draw.random() < 0.2:
             tail = tail[:-1] if not self.cfi else tail

@@ -1,4 +1,4 @@
-"""Makes loops over arrays of integers in C, from templates: the element type, the type of the length and `restrict` vary."""
+"""Makes loops over arrays of integers in C, from templates. The types of elements and lengths and `restrict` vary."""
 import itertools
 
 TYPES = ["int8_t", "int16_t", "int32_t", "int64_t", "uint8_t", "uint16_t", "uint32_t", "uint64_t"]
@@ -12,7 +12,8 @@ TEMPLATES = {
     "ended_sum": "T f(const T *a, const T *e) { T s = 0; while (a != e) s += *a++; return s; }",
     "sum_of_256": "T f(const T *a) { T s = 0; for (int i = 0; i < 256; i++) s += a[i]; return s; }",
     "dot": "T f(const T *a, const T *b, L n) { T s = 0; for (L i = 0; i < n; i++) s += a[i] * b[i]; return s; }",
-    "wide_dot": "W f(const T *a, const T *b, L n) { W s = 0; for (L i = 0; i < n; i++) s += (W)a[i] * b[i]; return s; }",
+    "wide_dot": "W f(const T *a, const T *b, L n) { W s = 0; for (L i = 0; i < n; i++) s += (W)a[i] * b[i];"
+                " return s; }",
     "copy": "void f(T *R a, const T *R b, L n) { for (L i = 0; i < n; i++) a[i] = b[i]; }",
     "fill": "void f(T *a, T x, L n) { for (L i = 0; i < n; i++) a[i] = x; }",
     "count_up": "void f(T *a, L n) { for (L i = 0; i < n; i++) a[i] = (T)i; }",
@@ -29,7 +30,8 @@ TEMPLATES = {
     "every_third": "T f(const T *a, L n) { T s = 0; for (L i = 0; i + 2 < n; i += 3) s ^= a[i]; return s; }",
     "stride": "T f(const T *a, L n, L k) { T s = 0; for (L i = 0; i < n; i++) s += a[i * k]; return s; }",
     "reverse_copy": "void f(T *R a, const T *R b, L n) { for (L i = 0; i < n; i++) a[i] = b[n - 1 - i]; }",
-    "reverse": "void f(T *a, L n) { for (L i = 0, j = n; i + 1 < j; i++) { j--; T t = a[i]; a[i] = a[j]; a[j] = t; } }",
+    "reverse": "void f(T *a, L n)"
+               " { for (L i = 0, j = n; i + 1 < j; i++) { j--; T t = a[i]; a[i] = a[j]; a[j] = t; } }",
     "backward_sum": "T f(const T *a, L n) { T s = 0; for (L i = n; i > 0; i--) s += a[i - 1]; return s; }",
     "add": "void f(T *R c, const T *R a, const T *R b, L n) { for (L i = 0; i < n; i++) c[i] = a[i] + b[i]; }",
     "subtract_in_place": "void f(T *R a, const T *R b, L n) { for (L i = 0; i < n; i++) a[i] -= b[i]; }",
@@ -45,7 +47,8 @@ TEMPLATES = {
     "absolute": "void f(T *a, L n) { for (L i = 0; i < n; i++) a[i] = a[i] < 0 ? -a[i] : a[i]; }",
     "distance": "W f(const T *a, const T *b, L n) { W s = 0; for (L i = 0; i < n; i++)"
                 " s += a[i] < b[i] ? b[i] - a[i] : a[i] - b[i]; return s; }",
-    "clamp": "void f(T *a, T lo, T hi, L n) { for (L i = 0; i < n; i++) a[i] = a[i] < lo ? lo : a[i] > hi ? hi : a[i]; }",
+    "clamp": "void f(T *a, T lo, T hi, L n)"
+             " { for (L i = 0; i < n; i++) a[i] = a[i] < lo ? lo : a[i] > hi ? hi : a[i]; }",
     "lesser_of_two": "void f(T *R c, const T *R a, const T *R b, L n)"
                      " { for (L i = 0; i < n; i++) c[i] = a[i] < b[i] ? a[i] : b[i]; }",
     "average": "void f(T *R c, const T *R a, const T *R b, L n)"
@@ -54,16 +57,21 @@ TEMPLATES = {
                 " { for (L i = 0; i < n; i++) { T s = a[i] + b[i]; c[i] = s < a[i] ? (T)~(T)0 : s; } }",
     "prefix_sums": "void f(T *a, L n) { T s = 0; for (L i = 0; i < n; i++) { s += a[i]; a[i] = s; } }",
     "equal": "int f(const T *a, const T *b, L n) { for (L i = 0; i < n; i++) if (a[i] != b[i]) return 0; return 1; }",
-    "differences": "L f(const T *a, const T *b, L n) { L k = 0; for (L i = 0; i < n; i++) k += a[i] != b[i]; return k; }",
+    "differences": "L f(const T *a, const T *b, L n) { L k = 0; for (L i = 0; i < n; i++) k += a[i] != b[i];"
+                   " return k; }",
     "sorted": "int f(const T *a, L n) { for (L i = 1; i < n; i++) if (a[i] < a[i - 1]) return 0; return 1; }",
-    "neighbours": "void f(T *R b, const T *R a, L n) { for (L i = 1; i + 1 < n; i++) b[i] = a[i - 1] + a[i] + a[i + 1]; }",
+    "neighbours": "void f(T *R b, const T *R a, L n)"
+                  " { for (L i = 1; i + 1 < n; i++) b[i] = a[i - 1] + a[i] + a[i + 1]; }",
     "hash": "T f(const T *a, L n) { T h = 7; for (L i = 0; i < n; i++) h = h * 31 + a[i]; return h; }",
-    "sum_of_positive": "T f(const T *a, L n) { T s = 0; for (L i = 0; i < n; i++) if (a[i] > 0) s += a[i]; return s; }",
-    "chosen": "void f(T *R c, const T *R a, const T *R b, L n) { for (L i = 0; i < n; i++) c[i] = a[i] ? a[i] : b[i]; }",
+    "sum_of_positive": "T f(const T *a, L n) { T s = 0; for (L i = 0; i < n; i++) if (a[i] > 0) s += a[i];"
+                       " return s; }",
+    "chosen": "void f(T *R c, const T *R a, const T *R b, L n)"
+              " { for (L i = 0; i < n; i++) c[i] = a[i] ? a[i] : b[i]; }",
     "pairs": "void f(T *R b, const T *R a, L n) { for (L i = 0; i < n; i++) b[i] = a[2 * i] + a[2 * i + 1]; }",
     "swap_arrays": "void f(T *R a, T *R b, L n) { for (L i = 0; i < n; i++) { T t = a[i]; a[i] = b[i]; b[i] = t; } }",
     "length": "size_t f(const T *a) { size_t k = 0; while (a[k]) k++; return k; }",
-    "bits": "int f(const T *a, L n) { int k = 0; for (L i = 0; i < n; i++) for (T x = a[i]; x; x &= x - 1) k++; return k; }",
+    "bits": "int f(const T *a, L n) { int k = 0; for (L i = 0; i < n; i++) for (T x = a[i]; x; x &= x - 1)"
+            " k++; return k; }",
     "sums_of_rows": "void f(T *R s, const T *R a, L n) { for (L i = 0; i < n; i++) { T t = 0;"
                     " for (int j = 0; j < 16; j++) t += a[16 * i + j]; s[i] = t; } }",
     "remainders": "void f(T *a, T k, L n) { for (L i = 0; i < n; i++) a[i] %= k; }",

@@ -6,127 +6,171 @@ takes, with what an assembler is known to do with them: `refuses`, `other code` 
 import re
 
 REFUSED = {
-    "a suffix left out": ["mov %rax,%rbx", "add $1,%eax", "xor %eax,%eax", "lea (%rdi),%rax", "push %rax", "pop %rbx",
-                          "shl $2,%rax", "test %al,%al", "movzb %al,%eax", "inc %rax", "imul %rcx,%rax", "mov (%rdi),%eax",
-                          "movabs $5,%rax", "movzx %al,%eax", "movsx %al,%eax"],
-    "letters of the other case": ["MOVQ %rax,%rbx", "movq %RAX,%rbx", "Ret", "addl $0X10,%eax", "movq %rax,%Rbx"],
-    "numbers in other forms": ["addl $010,%eax", "addl $08,%eax", "addl $0b11,%eax", "addl $'a,%eax", "addl $+5,%eax",
-                               "addl $ 5,%eax", "addl $- 5,%eax", "addl $1+2,%eax", "addl $(3),%eax", "addl $~0,%eax",
-                               "addl $--1,%eax", "addl $5.,%eax", "addl $0x,%eax", "addl $,%eax", "addl $1f,%eax",
-                               "addl $1e3,%eax", "addl $0x1p3,%eax", "addl 5,%eax", "addl $00,%eax"],
-    "an immediate out of its range": ["addb $256,%al", "addb $-129,%al", "addw $65536,%ax", "addw $-32769,%ax",
-                                      "addl $4294967296,%eax", "addl $-2147483649,%eax", "addq $2147483648,%rax",
-                                      "addq $-2147483649,%rax", "addq $0xffffffffffffffff,%rax", "movq $2147483648,%rax",
-                                      "movq $4294967295,%rax", "movq $18446744073709551615,%rax",
-                                      "movabsq $18446744073709551616,%rax", "movabsq $-9223372036854775809,%rax",
-                                      "addl $18446744073709551615,%eax", "pshufd $256,%xmm0,%xmm1", "pshufd $-1,%xmm0,%xmm1",
-                                      "pslld $256,%xmm0", "pslld $-1,%xmm0", "vpermq $256,%ymm0,%ymm1",
-                                      "imulw $65536,%ax", "testb $-129,(%rdi)"],
-    "a count of a shift out of its range": ["shlq $0,%rax", "shlq $64,%rax", "shll $32,%eax", "shlb $8,%al",
-                                            "shrw $16,%ax", "sarl $255,%eax", "sarl $256,%eax", "sarl $-1,%eax"],
-    "a shift by a register": ["shlq %cl,%rax", "sarl %cl,(%rdi)", "shrq %rcx,%rax", "psllw %xmm1,%xmm2",
-                              "vpslld %xmm1,%ymm2,%ymm3", "pslld (%rdi),%xmm2"],
-    "a displacement or an address that is an expression": ["movl 4+4(%rdi),%eax", "movl foo(%rdi),%eax",
-                                                           "movl (4)(%rdi),%eax", "movl 8-4(%rdi),%eax",
-                                                           "movl 4 (%rdi),%eax", "movl - 4(%rdi),%eax",
-                                                           "movl +4(%rdi),%eax", "movl 010(%rdi),%eax"],
-    "a displacement out of its range": ["movl 2147483648(%rdi),%eax", "movl 4294967295(%rdi),%eax",
-                                        "movl -2147483649(%rdi),%eax", "movl 0xffffffffffffffff(%rdi),%eax",
-                                        "movl 18446744073709551616(%rdi),%eax"],
-    "a scale in other forms": ["movl (%rdi,%rcx,3),%eax", "movl (%rdi,%rcx,0x4),%eax", "movl (%rdi,%rcx,),%eax",
-                               "movl (%rdi,%rcx,04),%eax", "movl (%rdi,%rcx,2+2),%eax", "movl (%rdi,%rcx,16),%eax",
-                               "movl (%rdi,%rcx,0),%eax", "movl (%rdi,,1),%eax", "movl (,,4),%eax", "movl (%rdi,4),%eax",
-                               "movl (%rdi,%rcx,-1),%eax"],
-    "parts of an address missing or too many": ["movl (),%eax", "movl (%rdi,),%eax", "movl 8,%eax", "movl 0x10,%eax",
-                                                "movl (8),%eax", "movl (%rdi,%rcx,4,1),%eax", "movl (%rdi %rcx),%eax",
-                                                "movl (%rdi)(%rcx),%eax", "movl ((%rdi)),%eax", "movl (%rdi,%eax",
-                                                "movl %rdi),%eax", "movl 4(%rdi,%rcx,4)4,%eax", "movl [%rdi],%eax"],
-    "an address of other registers": ["movl (%edi),%eax", "movl (%rdi,%ecx,4),%eax", "movl (%rdi,%rsp,1),%eax",
-                                      "movl (%rsp,%rsp),%eax", "movl (%xmm0),%eax", "movl (%rdi,%xmm1,4),%eax",
-                                      "movl (%di),%eax", "movl (%rip),%eax", "movl 8(%rip),%eax", "movl (%rdi,%rip),%eax",
-                                      "movl (%rdi,%riz,1),%eax", "movl (%eip),%eax"],
-    "a segment": ["movq %fs:(%rdi),%rax", "movq %fs:40,%rax", "movq %ds:(%rax),%rbx", "movq %es:8(%rdi),%rax",
-                  "fs movq (%rdi),%rax"],
-    "a symbol": ["movl foo,%eax", "movq $foo,%rax", "leaq foo,%rax", "movl arr(,%rax,4),%eax", "jmp elsewhere",
-                 "jne printf", "leaq foo@GOTPCREL(%rip),%rax", "movq $f,%rax", "addq $.Lnowhere,%rax"],
-    "a constant of the pool": ["movl .LC0(%rip),%eax", "paddd .LC0(%rip),%xmm0", "vpand .LC0+16(%rip),%ymm0,%ymm1",
-                               "leaq .LC0(%rip),%rax", "movl foo+4( %rip ),%eax", "movl .LC0-4(%rip),%eax"],
-    "a symbol with (%rip) in other forms": ["movl foo+04(%rip),%eax", "movl foo + 4(%rip),%eax", "movl foo (%rip),%eax",
-                                            "movl foo+0x4(%rip),%eax", "movl foo+4+4(%rip),%eax", "movl 4+foo(%rip),%eax",
-                                            "movl \"foo\"(%rip),%eax"],
-    "a high byte": ["movb %ah,%al", "addb $1,%ah", "movzbl %bh,%eax", "setne %ch", "testb $4,%dh"],
-    "registers of another width": ["movq %eax,%rbx", "movl %rax,%ebx", "addw %ax,%ebx", "movb %ax,%bl", "movzbl %ax,%ecx",
-                                   "movslq %ax,%rcx", "movsbl %eax,%ecx", "cmovneq %eax,%ebx", "cmovne %ax,%ebx",
-                                   "cmovne %al,%bl", "cmovneb %al,%bl", "leal (%rdi),%ax", "leaw (%rdi),%ax", "sete %eax",
-                                   "pushq %eax", "pushl %eax", "pushw %ax", "popl %eax", "imulb %al,%bl",
-                                   "cmovne %eax,(%rdi)", "movzbl %al,%cx", "movzlq %eax,%rax", "movsbb %al,%bl",
-                                   "movsll %eax,%ebx", "movzwl %al,%eax"],
-    "an immediate or memory where none stands": ["movq %rax,$5", "addl $1,$2", "movl (%rdi),(%rsi)", "addq (%rdi),8(%rsi)",
-                                                 "cmpl %eax,$5", "testl %eax,$5", "pushq $5", "pushq (%rdi)",
-                                                 "popq (%rdi)", "imulq %rax,(%rdi)", "movzbl %al,(%rdi)", "movzbl $5,%eax",
-                                                 "leaq %rax,%rbx", "leaq $5,%rbx", "cmovneq $5,%rax", "setne $1",
-                                                 "movabsq %rax,%rbx", "movabsq (%rdi),%rax", "movabsq 0x1122334455667788,%rax",
-                                                 "incl $5", "shll $1,$2", "imull $3,$4,%eax", "imull $3,%eax,(%rdi)",
-                                                 "imulq (%rdi)", "imulq %rcx", "movabsq $5,(%rdi)"],
-    "a number of operands": ["movq %rax", "movq", "addl $1", "addl $1,%eax,%ebx", "ret $8", "ret %rax", "retq $0", "nop %eax",
-                             "nop (%rax)", "cltq %rax", "endbr64 %rax", "incl %eax,%ebx", "incl", "jmp", "jne", "pushq",
-                             "paddd %xmm0", "paddd %xmm0,%xmm1,%xmm2", "vpaddd %xmm0,%xmm1", "vzeroupper %ymm0",
-                             "movq %rax,%rbx,%rcx", "movq ,%rax", "movq %rax,", "movq %rax,,%rbx", "shlq", "shlq $1",
-                             "shlq $1,%rax,%rbx", "movl %eax %ebx", "vpermq $1,%ymm0", "imulq", "negl", "setne"],
-    "blanks and other bytes": ["movq % rax,%rbx", "movq %rax, % rbx", "mov q %rax,%rbx", "movq\x0b%rax,%rbx",
-                               "movq\x0c%rax,%rbx", "movq %rax,%rbx\x0b", "movq %rax,\r%rbx", "movq %rax,%rbx\r\t",
-                               "movq\u00a0%rax,%rbx", "movq %rax,%rbx\x00", "movq rax,%rbx", "movq %%rax,%rbx"],
-    "two statements on one line": ["incq %rax; incq %rbx", "incq %rax ;", "; incq %rax", "ret; ret", "incq %rax \\"],
-    "comments of another kind": ["/ a comment", "incq %rax /* a comment */", "/* a comment */ incq %rax", "// a comment",
-                                 "incq %rax // a comment", "incq %rax ! a comment"],
-    "labels of another kind": ["x : incq %rax", "1: incq %rax", "\"x\": incq %rax", "x = 5", "x == 5", "$5 = 6",
-                               "jmp 1f\n1:", "1: jmp 1b", "L\u00e4: incq %rax", "jmp .", "jmp .+2", "jmp *%rax",
-                               "jmp *(%rax)", "jmp 5", "jmp $5", "jmp %rax", "jmp (%rax)", "jmp f+0", "jmp .Lf-0"],
-    "prefixes": ["rep retq", "repz ret", "rep ret $8", "rep movsb", "rep nop", "lock incl (%rdi)", "data16 nop",
-                 "{vex3} vpaddd %xmm0,%xmm1,%xmm2", "{disp32} movl (%rdi),%eax", "{load} movl %eax,%ebx", "notrack jmp f",
-                 "bnd ret", "rep", "rex.W addl %eax,%ebx", "cs nop", "addr32 movl (%rdi),%eax"],
-    "hints and suffixes of jumps": ["jmpq f", "jne,pt f", "jne,pn f", "jeq f", "retl", "retw", "lret", "nopw (%rax)",
-                                    "nopl 8(%rax)", "nopw", "jrcxz f", "loop f", "jmp.d32 f", "jmpl f", "setneb %al"],
-    "instructions that are left out": ["mulq %rcx", "divl %ecx", "idivq %rcx", "adcl $1,%eax", "sbbl %eax,%eax", "cqto",
-                                       "cltd", "cwtl", "btl $3,%eax", "bswap %eax", "popcntl %eax,%ebx", "xchgl %eax,%ebx",
-                                       "leave", "call f", "callq f", "movsq", "stosl", "cmc", "stc", "hlt", "ud2", "pause",
-                                       "rolq $3,%rax", "rorl $3,%eax", "shldq $3,%rax,%rbx", "bsfl %eax,%ebx", "tzcnt %eax,%ebx",
-                                       "movbel (%rdi),%eax", "cmpxchgl %eax,(%rdi)", "xaddl %eax,(%rdi)", "lahf", "pushfq",
-                                       "shlxl %eax,%ebx,%ecx", "andnl %eax,%ebx,%ecx", "prefetcht0 (%rdi)", "mfence", "xlatb"],
-    "vectors that are left out": ["addps %xmm0,%xmm1", "addsd %xmm0,%xmm1", "cvtdq2ps %xmm0,%xmm1", "movss (%rdi),%xmm0",
-                                  "pabsd %xmm0,%xmm1", "pshufb %xmm0,%xmm1", "pmulld %xmm0,%xmm1", "pminsd %xmm0,%xmm1",
-                                  "pmovzxbw %xmm0,%xmm1", "ptest %xmm0,%xmm1", "pinsrw $1,%eax,%xmm0", "pextrw $1,%xmm0,%eax",
-                                  "movhps (%rdi),%xmm0", "movlps %xmm0,(%rdi)", "shufps $1,%xmm0,%xmm1", "lddqu (%rdi),%xmm0",
-                                  "movntdq %xmm0,(%rdi)", "vpblendd $1,%ymm0,%ymm1,%ymm2", "vpermd %ymm0,%ymm1,%ymm2",
-                                  "vpalignr $1,%ymm0,%ymm1,%ymm2", "vpsllvd %ymm0,%ymm1,%ymm2", "vpgatherdd %ymm0,(%rdi,%ymm1,4),%ymm2",
-                                  "vmaskmovps %ymm0,%ymm1,(%rdi)", "vpmaskmovd %ymm0,%ymm1,(%rdi)", "vpcmpeqq %ymm0,%ymm1,%ymm2",
-                                  "vpmuldq %ymm0,%ymm1,%ymm2", "vpackusdw %ymm0,%ymm1,%ymm2", "vpmovzxbq %xmm0,%ymm1",
-                                  "vpmovzxwq %xmm0,%ymm1", "vbroadcasti128 (%rdi),%ymm0", "vzeroall", "vpermpd $1,%ymm0,%ymm1",
-                                  "movapd %xmm0,%xmm1", "andpd %xmm0,%xmm1", "xorpd %xmm0,%xmm1", "movupd (%rdi),%xmm0",
-                                  "vphaddd %ymm0,%ymm1,%ymm2", "vpsignd %ymm0,%ymm1,%ymm2", "movnti %eax,(%rdi)", "emms"],
-    "vectors of other widths": ["paddd %ymm0,%ymm1", "vpaddd %xmm0,%ymm1,%ymm2", "vpaddd %ymm0,%ymm1,%xmm2",
-                                "vpaddd %zmm0,%zmm1,%zmm2", "vpaddd %xmm16,%xmm1,%xmm2", "paddd %mm0,%mm1", "paddd %xmm16,%xmm0",
-                                "movd %rax,%xmm0", "movd %xmm0,%rax", "vmovd %rax,%xmm0", "vmovd %xmm0,%rax", "movd %eax,%mm0",
-                                "movq %eax,%xmm0", "movd %eax,%ymm0", "vmovq %rax,%ymm0", "vmovq %ymm0,%rax", "movd %xmm0,%xmm1",
-                                "vpbroadcastd %ymm0,%ymm1", "vpbroadcastd %eax,%ymm1", "vpmovzxbw %ymm0,%ymm1",
-                                "vpmovzxbw %ymm0,%xmm1", "vextracti128 $1,%xmm0,%xmm1", "vextracti128 $1,%ymm0,%ymm1",
-                                "vinserti128 $1,%ymm0,%ymm1,%ymm2", "vinserti128 $1,%xmm0,%xmm1,%xmm2",
-                                "vperm2i128 $1,%xmm0,%xmm1,%xmm2", "vpermq $1,%xmm0,%xmm1", "pmovmskb %xmm0,%rax",
-                                "pmovmskb (%rdi),%eax", "vpmovmskb %ymm0,%rax", "movdqa (%rdi),(%rsi)", "movq $5,%xmm0",
-                                "movdqa %xmm0,%rax", "paddd %xmm0,(%rdi)", "vpaddd %ymm0,(%rdi),%ymm1", "vpslld $1,(%rdi),%ymm0",
-                                "pslld $1,(%rdi)", "pslldq $1,(%rdi)", "vpabsd %ymm0,%xmm1", "vpshufd $1,%ymm0,%xmm1",
-                                "movq (%rdi),%ymm0", "movd (%rdi),%ymm0", "pxor $1,%xmm0", "movdqa %ymm0,%ymm1"],
+    "a suffix left out": [
+        "mov %rax,%rbx", "add $1,%eax", "xor %eax,%eax", "lea (%rdi),%rax", "push %rax", "pop %rbx", "shl $2,%rax",
+        "test %al,%al", "movzb %al,%eax", "inc %rax", "imul %rcx,%rax", "mov (%rdi),%eax", "movabs $5,%rax",
+        "movzx %al,%eax", "movsx %al,%eax",
+    ],
+    "letters of the other case": [
+        "MOVQ %rax,%rbx", "movq %RAX,%rbx", "Ret", "addl $0X10,%eax", "movq %rax,%Rbx",
+    ],
+    "numbers in other forms": [
+        "addl $010,%eax", "addl $08,%eax", "addl $0b11,%eax", "addl $'a,%eax", "addl $+5,%eax", "addl $ 5,%eax",
+        "addl $- 5,%eax", "addl $1+2,%eax", "addl $(3),%eax", "addl $~0,%eax", "addl $--1,%eax", "addl $5.,%eax",
+        "addl $0x,%eax", "addl $,%eax", "addl $1f,%eax", "addl $1e3,%eax", "addl $0x1p3,%eax", "addl 5,%eax",
+        "addl $00,%eax",
+    ],
+    "an immediate out of its range": [
+        "addb $256,%al", "addb $-129,%al", "addw $65536,%ax", "addw $-32769,%ax", "addl $4294967296,%eax",
+        "addl $-2147483649,%eax", "addq $2147483648,%rax", "addq $-2147483649,%rax",
+        "addq $0xffffffffffffffff,%rax", "movq $2147483648,%rax", "movq $4294967295,%rax",
+        "movq $18446744073709551615,%rax", "movabsq $18446744073709551616,%rax",
+        "movabsq $-9223372036854775809,%rax", "addl $18446744073709551615,%eax", "pshufd $256,%xmm0,%xmm1",
+        "pshufd $-1,%xmm0,%xmm1", "pslld $256,%xmm0", "pslld $-1,%xmm0", "vpermq $256,%ymm0,%ymm1",
+        "imulw $65536,%ax", "testb $-129,(%rdi)",
+    ],
+    "a count of a shift out of its range": [
+        "shlq $0,%rax", "shlq $64,%rax", "shll $32,%eax", "shlb $8,%al", "shrw $16,%ax", "sarl $255,%eax",
+        "sarl $256,%eax", "sarl $-1,%eax",
+    ],
+    "a shift by a register": [
+        "shlq %cl,%rax", "sarl %cl,(%rdi)", "shrq %rcx,%rax", "psllw %xmm1,%xmm2", "vpslld %xmm1,%ymm2,%ymm3",
+        "pslld (%rdi),%xmm2",
+    ],
+    "a displacement or an address that is an expression": [
+        "movl 4+4(%rdi),%eax", "movl foo(%rdi),%eax", "movl (4)(%rdi),%eax", "movl 8-4(%rdi),%eax",
+        "movl 4 (%rdi),%eax", "movl - 4(%rdi),%eax", "movl +4(%rdi),%eax", "movl 010(%rdi),%eax",
+    ],
+    "a displacement out of its range": [
+        "movl 2147483648(%rdi),%eax", "movl 4294967295(%rdi),%eax", "movl -2147483649(%rdi),%eax",
+        "movl 0xffffffffffffffff(%rdi),%eax", "movl 18446744073709551616(%rdi),%eax",
+    ],
+    "a scale in other forms": [
+        "movl (%rdi,%rcx,3),%eax", "movl (%rdi,%rcx,0x4),%eax", "movl (%rdi,%rcx,),%eax",
+        "movl (%rdi,%rcx,04),%eax", "movl (%rdi,%rcx,2+2),%eax", "movl (%rdi,%rcx,16),%eax",
+        "movl (%rdi,%rcx,0),%eax", "movl (%rdi,,1),%eax", "movl (,,4),%eax", "movl (%rdi,4),%eax",
+        "movl (%rdi,%rcx,-1),%eax",
+    ],
+    "parts of an address missing or too many": [
+        "movl (),%eax", "movl (%rdi,),%eax", "movl 8,%eax", "movl 0x10,%eax", "movl (8),%eax",
+        "movl (%rdi,%rcx,4,1),%eax", "movl (%rdi %rcx),%eax", "movl (%rdi)(%rcx),%eax", "movl ((%rdi)),%eax",
+        "movl (%rdi,%eax", "movl %rdi),%eax", "movl 4(%rdi,%rcx,4)4,%eax", "movl [%rdi],%eax",
+    ],
+    "an address of other registers": [
+        "movl (%edi),%eax", "movl (%rdi,%ecx,4),%eax", "movl (%rdi,%rsp,1),%eax", "movl (%rsp,%rsp),%eax",
+        "movl (%xmm0),%eax", "movl (%rdi,%xmm1,4),%eax", "movl (%di),%eax", "movl (%rip),%eax", "movl 8(%rip),%eax",
+        "movl (%rdi,%rip),%eax", "movl (%rdi,%riz,1),%eax", "movl (%eip),%eax",
+    ],
+    "a segment": [
+        "movq %fs:(%rdi),%rax", "movq %fs:40,%rax", "movq %ds:(%rax),%rbx", "movq %es:8(%rdi),%rax",
+        "fs movq (%rdi),%rax",
+    ],
+    "a symbol": [
+        "movl foo,%eax", "movq $foo,%rax", "leaq foo,%rax", "movl arr(,%rax,4),%eax", "jmp elsewhere", "jne printf",
+        "leaq foo@GOTPCREL(%rip),%rax", "movq $f,%rax", "addq $.Lnowhere,%rax",
+    ],
+    "a constant of the pool": [
+        "movl .LC0(%rip),%eax", "paddd .LC0(%rip),%xmm0", "vpand .LC0+16(%rip),%ymm0,%ymm1", "leaq .LC0(%rip),%rax",
+        "movl foo+4( %rip ),%eax", "movl .LC0-4(%rip),%eax",
+    ],
+    "a symbol with (%rip) in other forms": [
+        "movl foo+04(%rip),%eax", "movl foo + 4(%rip),%eax", "movl foo (%rip),%eax", "movl foo+0x4(%rip),%eax",
+        "movl foo+4+4(%rip),%eax", "movl 4+foo(%rip),%eax", "movl \"foo\"(%rip),%eax",
+    ],
+    "a high byte": [
+        "movb %ah,%al", "addb $1,%ah", "movzbl %bh,%eax", "setne %ch", "testb $4,%dh",
+    ],
+    "registers of another width": [
+        "movq %eax,%rbx", "movl %rax,%ebx", "addw %ax,%ebx", "movb %ax,%bl", "movzbl %ax,%ecx", "movslq %ax,%rcx",
+        "movsbl %eax,%ecx", "cmovneq %eax,%ebx", "cmovne %ax,%ebx", "cmovne %al,%bl", "cmovneb %al,%bl",
+        "leal (%rdi),%ax", "leaw (%rdi),%ax", "sete %eax", "pushq %eax", "pushl %eax", "pushw %ax", "popl %eax",
+        "imulb %al,%bl", "cmovne %eax,(%rdi)", "movzbl %al,%cx", "movzlq %eax,%rax", "movsbb %al,%bl",
+        "movsll %eax,%ebx", "movzwl %al,%eax",
+    ],
+    "an immediate or memory where none stands": [
+        "movq %rax,$5", "addl $1,$2", "movl (%rdi),(%rsi)", "addq (%rdi),8(%rsi)", "cmpl %eax,$5", "testl %eax,$5",
+        "pushq $5", "pushq (%rdi)", "popq (%rdi)", "imulq %rax,(%rdi)", "movzbl %al,(%rdi)", "movzbl $5,%eax",
+        "leaq %rax,%rbx", "leaq $5,%rbx", "cmovneq $5,%rax", "setne $1", "movabsq %rax,%rbx", "movabsq (%rdi),%rax",
+        "movabsq 0x1122334455667788,%rax", "incl $5", "shll $1,$2", "imull $3,$4,%eax", "imull $3,%eax,(%rdi)",
+        "imulq (%rdi)", "imulq %rcx", "movabsq $5,(%rdi)",
+    ],
+    "a number of operands": [
+        "movq %rax", "movq", "addl $1", "addl $1,%eax,%ebx", "ret $8", "ret %rax", "retq $0", "nop %eax",
+        "nop (%rax)", "cltq %rax", "endbr64 %rax", "incl %eax,%ebx", "incl", "jmp", "jne", "pushq", "paddd %xmm0",
+        "paddd %xmm0,%xmm1,%xmm2", "vpaddd %xmm0,%xmm1", "vzeroupper %ymm0", "movq %rax,%rbx,%rcx", "movq ,%rax",
+        "movq %rax,", "movq %rax,,%rbx", "shlq", "shlq $1", "shlq $1,%rax,%rbx", "movl %eax %ebx",
+        "vpermq $1,%ymm0", "imulq", "negl", "setne",
+    ],
+    "blanks and other bytes": [
+        "movq % rax,%rbx", "movq %rax, % rbx", "mov q %rax,%rbx", "movq\x0b%rax,%rbx", "movq\x0c%rax,%rbx",
+        "movq %rax,%rbx\x0b", "movq %rax,\r%rbx", "movq %rax,%rbx\r\t", "movq\u00a0%rax,%rbx", "movq %rax,%rbx\x00",
+        "movq rax,%rbx", "movq %%rax,%rbx",
+    ],
+    "two statements on one line": [
+        "incq %rax; incq %rbx", "incq %rax ;", "; incq %rax", "ret; ret", "incq %rax \\",
+    ],
+    "comments of another kind": [
+        "/ a comment", "incq %rax /* a comment */", "/* a comment */ incq %rax", "// a comment",
+        "incq %rax // a comment", "incq %rax ! a comment",
+    ],
+    "labels of another kind": [
+        "x : incq %rax", "1: incq %rax", "\"x\": incq %rax", "x = 5", "x == 5", "$5 = 6", "jmp 1f\n1:", "1: jmp 1b",
+        "L\u00e4: incq %rax", "jmp .", "jmp .+2", "jmp *%rax", "jmp *(%rax)", "jmp 5", "jmp $5", "jmp %rax",
+        "jmp (%rax)", "jmp f+0", "jmp .Lf-0",
+    ],
+    "prefixes": [
+        "rep retq", "repz ret", "rep ret $8", "rep movsb", "rep nop", "lock incl (%rdi)", "data16 nop",
+        "{vex3} vpaddd %xmm0,%xmm1,%xmm2", "{disp32} movl (%rdi),%eax", "{load} movl %eax,%ebx", "notrack jmp f",
+        "bnd ret", "rep", "rex.W addl %eax,%ebx", "cs nop", "addr32 movl (%rdi),%eax",
+    ],
+    "hints and suffixes of jumps": [
+        "jmpq f", "jne,pt f", "jne,pn f", "jeq f", "retl", "retw", "lret", "nopw (%rax)", "nopl 8(%rax)", "nopw",
+        "jrcxz f", "loop f", "jmp.d32 f", "jmpl f", "setneb %al",
+    ],
+    "instructions that are left out": [
+        "mulq %rcx", "divl %ecx", "idivq %rcx", "adcl $1,%eax", "sbbl %eax,%eax", "cqto", "cltd", "cwtl",
+        "btl $3,%eax", "bswap %eax", "popcntl %eax,%ebx", "xchgl %eax,%ebx", "leave", "call f", "callq f", "movsq",
+        "stosl", "cmc", "stc", "hlt", "ud2", "pause", "rolq $3,%rax", "rorl $3,%eax", "shldq $3,%rax,%rbx",
+        "bsfl %eax,%ebx", "tzcnt %eax,%ebx", "movbel (%rdi),%eax", "cmpxchgl %eax,(%rdi)", "xaddl %eax,(%rdi)",
+        "lahf", "pushfq", "shlxl %eax,%ebx,%ecx", "andnl %eax,%ebx,%ecx", "prefetcht0 (%rdi)", "mfence", "xlatb",
+    ],
+    "vectors that are left out": [
+        "addps %xmm0,%xmm1", "addsd %xmm0,%xmm1", "cvtdq2ps %xmm0,%xmm1", "movss (%rdi),%xmm0", "pabsd %xmm0,%xmm1",
+        "pshufb %xmm0,%xmm1", "pmulld %xmm0,%xmm1", "pminsd %xmm0,%xmm1", "pmovzxbw %xmm0,%xmm1",
+        "ptest %xmm0,%xmm1", "pinsrw $1,%eax,%xmm0", "pextrw $1,%xmm0,%eax", "movhps (%rdi),%xmm0",
+        "movlps %xmm0,(%rdi)", "shufps $1,%xmm0,%xmm1", "lddqu (%rdi),%xmm0", "movntdq %xmm0,(%rdi)",
+        "vpblendd $1,%ymm0,%ymm1,%ymm2", "vpermd %ymm0,%ymm1,%ymm2", "vpalignr $1,%ymm0,%ymm1,%ymm2",
+        "vpsllvd %ymm0,%ymm1,%ymm2", "vpgatherdd %ymm0,(%rdi,%ymm1,4),%ymm2", "vmaskmovps %ymm0,%ymm1,(%rdi)",
+        "vpmaskmovd %ymm0,%ymm1,(%rdi)", "vpcmpeqq %ymm0,%ymm1,%ymm2", "vpmuldq %ymm0,%ymm1,%ymm2",
+        "vpackusdw %ymm0,%ymm1,%ymm2", "vpmovzxbq %xmm0,%ymm1", "vpmovzxwq %xmm0,%ymm1",
+        "vbroadcasti128 (%rdi),%ymm0", "vzeroall", "vpermpd $1,%ymm0,%ymm1", "movapd %xmm0,%xmm1",
+        "andpd %xmm0,%xmm1", "xorpd %xmm0,%xmm1", "movupd (%rdi),%xmm0", "vphaddd %ymm0,%ymm1,%ymm2",
+        "vpsignd %ymm0,%ymm1,%ymm2", "movnti %eax,(%rdi)", "emms",
+    ],
+    "vectors of other widths": [
+        "paddd %ymm0,%ymm1", "vpaddd %xmm0,%ymm1,%ymm2", "vpaddd %ymm0,%ymm1,%xmm2", "vpaddd %zmm0,%zmm1,%zmm2",
+        "vpaddd %xmm16,%xmm1,%xmm2", "paddd %mm0,%mm1", "paddd %xmm16,%xmm0", "movd %rax,%xmm0", "movd %xmm0,%rax",
+        "vmovd %rax,%xmm0", "vmovd %xmm0,%rax", "movd %eax,%mm0", "movq %eax,%xmm0", "movd %eax,%ymm0",
+        "vmovq %rax,%ymm0", "vmovq %ymm0,%rax", "movd %xmm0,%xmm1", "vpbroadcastd %ymm0,%ymm1",
+        "vpbroadcastd %eax,%ymm1", "vpmovzxbw %ymm0,%ymm1", "vpmovzxbw %ymm0,%xmm1", "vextracti128 $1,%xmm0,%xmm1",
+        "vextracti128 $1,%ymm0,%ymm1", "vinserti128 $1,%ymm0,%ymm1,%ymm2", "vinserti128 $1,%xmm0,%xmm1,%xmm2",
+        "vperm2i128 $1,%xmm0,%xmm1,%xmm2", "vpermq $1,%xmm0,%xmm1", "pmovmskb %xmm0,%rax", "pmovmskb (%rdi),%eax",
+        "vpmovmskb %ymm0,%rax", "movdqa (%rdi),(%rsi)", "movq $5,%xmm0", "movdqa %xmm0,%rax", "paddd %xmm0,(%rdi)",
+        "vpaddd %ymm0,(%rdi),%ymm1", "vpslld $1,(%rdi),%ymm0", "pslld $1,(%rdi)", "pslldq $1,(%rdi)",
+        "vpabsd %ymm0,%xmm1", "vpshufd $1,%ymm0,%xmm1", "movq (%rdi),%ymm0", "movd (%rdi),%ymm0", "pxor $1,%xmm0",
+        "movdqa %ymm0,%ymm1",
+    ],
 }
 
-BODY = "\tmovl $1,%eax\n"
-TWICE_BODY = BODY + "{}" + "\taddl $2,%eax\n"
 # reason, text of f, what an assembler does
 READ_OTHERWISE = [
     ("`;` behind a directive", "f:\n\t.p2align 0; incq %rax\n\tret\n", "other code"),
     ("`;` behind a directive", "f:\n\t.loc_is_no_directive = 5; incq %rax\n\tret\n", "other code"),
     ("a blank between a label that begins with `.` and its colon", "f:\n\t.L1 : incq %rax\n\tret\n", "other code"),
-    ("a block comment that begins behind a directive", "f:\n\t.p2align 0 /* a\n\tincq %rax\n\t.text */\n\tret\n", "other code"),
-    ("a string of a directive that goes on behind its line", "f:\n\t.ident \"a\n\tincq %rax\n\t.ident b\"\n\tret\n", "other code"),
+    ("a block comment that begins behind a directive",
+     "f:\n\t.p2align 0 /* a\n\tincq %rax\n\t.text */\n\tret\n", "other code"),
+    ("a string of a directive that goes on behind its line",
+     "f:\n\t.ident \"a\n\tincq %rax\n\t.ident b\"\n\tret\n", "other code"),
     ("a `#` inside a string of a directive", "f:\n\t.ident \"a # b\"; incq %rax\n\tret\n", "other code"),
     ("`.rept` and `.endr`", "f:\n\t.rept 3\n\tincq %rax\n\t.endr\n\tret\n", "other code"),
     ("`.irp`", "f:\n\t.irp x, 1, 2\n\tincq %rax\n\t.endr\n\tret\n", "other code"),
@@ -142,9 +186,11 @@ READ_OTHERWISE = [
     ("`.section` and its like in a body", "f:\n\tincq %rax\n\t.section .data\n\tret\n", "other code"),
     ("`.section` and its like in a body", "f:\n\tincq %rax\n\t.data\n\tret\n", "other code"),
     ("`.section` and its like in a body", "f:\n\tincq %rax\n\t.pushsection .rodata\n\tret\n", "other code"),
-    ("`.section` and its like in a body", "f:\n\tincq %rax\n\t.subsection 1\n\tincq %rbx\n\t.subsection 0\n\tret\n", "other code"),
+    ("`.section` and its like in a body",
+     "f:\n\tincq %rax\n\t.subsection 1\n\tincq %rbx\n\t.subsection 0\n\tret\n", "other code"),
     ("`.section` and its like in a body", "f:\n\tincq %rax\n\t.bss\n\tincq %rbx\n\t.text\n\tret\n", "other code"),
-    ("`.section` and its like in a body", "f:\n\tincq %rax\n\t.text 1\n\tincq %rbx\n\t.text 0\n\tret\n", "other code"),
+    ("`.section` and its like in a body",
+     "f:\n\tincq %rax\n\t.text 1\n\tincq %rbx\n\t.text 0\n\tret\n", "other code"),
     ("`.struct`", "f:\n\tincq %rax\n\t.struct 0\n\tincq %rbx\n\tret\n", "other code"),
     ("`.intel_syntax`", "f:\n\t.intel_syntax noprefix\n\tmovq %rsi,%rax\n\tret\n", "other code"),
     ("`.intel_syntax`", "f:\n\t.intel_syntax noprefix\n\tmovq (%rsi),%rax\n\tret\n", "other code"),
@@ -158,7 +204,8 @@ READ_OTHERWISE = [
     ("`.equ`, `.set` and `=` of a label", "f:\n\tjmp .L1\n\t.set .L1, f\n.L1:\n\tret\n", "other code"),
     ("`.equ`, `.set` and `=` of a label", "f:\n\tjmp .L1\n\tincq %rax\n\t.L1 = f\n.L1:\n\tret\n", "other code"),
     ("`.reloc`", "f:\n\tincq %rax\n\t.reloc ., R_X86_64_NONE\n\tret\n", "same code"),
-    ("`.bundle_align_mode`", "f:\n\t.bundle_align_mode 4\n" + "\tmovabsq $5,%rax\n" * 3 + "\tret\n", "other code"),
+    ("`.bundle_align_mode`",
+     "f:\n\t.bundle_align_mode 4\n\tmovabsq $5,%rax\n\tmovabsq $5,%rax\n\tmovabsq $5,%rax\n\tret\n", "other code"),
     ("`.err`, `.error`, `.abort`, `.print`, `.warning`", "f:\n\t.err\n\tret\n", "refuses"),
     ("`.err`, `.error`, `.abort`, `.print`, `.warning`", "f:\n\t.error \"no\"\n\tret\n", "refuses"),
     ("`.err`, `.error`, `.abort`, `.print`, `.warning`", "f:\n\t.abort\n\tret\n", "refuses"),
@@ -171,7 +218,8 @@ READ_OTHERWISE = [
     ("a directive of unwinding outside of its block", "f:\n\t.cfi_def_cfa_offset 16\n\tret\n", "refuses"),
     ("a directive of unwinding outside of its block", "f:\n\tret\n\t.cfi_endproc\n", "refuses"),
     ("a block of unwinding that is not closed", "f:\n\t.cfi_startproc\n\tret\n", "refuses"),
-    ("a label that stands in two functions of a text", "f:\n.L1:\n\tret\n\t.size f,.-f\ng:\n.L1:\n\tret\n", "refuses"),
+    ("a label that stands in two functions of a text",
+     "f:\n.L1:\n\tret\n\t.size f,.-f\ng:\n.L1:\n\tret\n", "refuses"),
     ("a function that stands twice in a text", "f:\n\tret\nf:\n\tret\n", "refuses"),
     ("text outside of the function", "bogus\nf:\n\tret\n", "refuses"),
     ("text outside of the function", "f:\n\tret\n\t.size f,.-f\n\tbogus\n", "refuses"),
@@ -191,14 +239,17 @@ READ_OTHERWISE = [
     ("padding by other bytes than `nop`", "f:\n\tincq %rax\n\t.p2align 4,0xf4\n\tret\n", "other code"),
     ("padding by other bytes than `nop`", "f:\n\tincq %rax\n\t.balignl 8,0x12345678\n\tret\n", "refuses"),
     ("a bit of debugging", "f:\n\t.loc 5 5\n\tret\n", "refuses"),
-] + [
-    ("data in a body by a directive that the grammar skips", f"f:\n\t{directive}\n\tret\n", "other code")
-    for directive in (".2byte 5", ".4byte 5", ".8byte 5", ".hword 5", ".uleb128 5", ".sleb128 5", ".nops 4", ".dc.b 5",
-                      ".dc.w 5", ".dc.l 5", ".dc.d 5", ".dcb.b 4,5", ".ds.b 4,5", ".single 5.0", ".tfloat 5.0",
-                      ".bfloat16 5.0", ".string8 \"a\"", ".string16 \"a\"", ".string32 \"a\"", ".string64 \"a\"",
-                      ".slong 5", ".dc 5", ".dcb 4,5", ".ds 4", ".hfloat 5.0")
 ]
-# texts of other names than f, with the name
+# directives of data that the grammar skips
+DATA = [
+    ".2byte 5", ".4byte 5", ".8byte 5", ".hword 5", ".uleb128 5", ".sleb128 5", ".nops 4", ".dc.b 5", ".dc.w 5",
+    ".dc.l 5", ".dc.d 5", ".dcb.b 4,5", ".ds.b 4,5", ".single 5.0", ".tfloat 5.0", ".bfloat16 5.0",
+    ".string8 \"a\"", ".string16 \"a\"", ".string32 \"a\"", ".string64 \"a\"", ".slong 5", ".dc 5", ".dcb 4,5",
+    ".ds 4", ".hfloat 5.0",
+]
+READ_OTHERWISE += [("data in a body by a directive that is skipped", f"f:\n\t{directive}\n\tret\n", "other code")
+                   for directive in DATA]
+# reason, name, text, what an assembler does
 OTHER_NAMES = [
     ("a function whose name begins with `$`", "$foo", "$foo:\n\tincq %rax\n\tjmp $foo\n", "refuses"),
     ("a function named `.`", ".", ".:\n\tincq %rax\n\tjmp .\n", "other code"),
@@ -209,11 +260,12 @@ OTHER_NAMES = [
     ("a jump to a global function", "f", "\t.globl f\nf:\n\tincq %rax\n\tjmp f\n", "same code"),
 ]
 
-
 # mutations
 
-TOKENS = ["%rax", "%eax", "%ax", "%al", "%ah", "%xmm1", "%ymm2", "%rsp", "%r9d", "%spl", "(%rdi)", "8(%rdi,%rcx,4)", "$5", "$-1",
-          "$256", "$65536", "$2147483648", "$4294967296", "$foo", ".LC0(%rip)", "(%edi)", "5", "foo", ""]
+TOKENS = ["%rax", "%eax", "%ax", "%al", "%ah", "%xmm1", "%ymm2", "%rsp", "%r9d", "%spl", "(%rdi)", "8(%rdi,%rcx,4)",
+          "$5", "$-1", "$256", "$65536", "$2147483648", "$4294967296", "$foo", ".LC0(%rip)", "(%edi)", "5", "foo", ""]
+EDGES = [0, 1, 7, 8, 15, 16, 31, 32, 63, 64, 127, 128, 255, 256, -1, -128, -129, -32768, -32769, 65535, 65536,
+         2**31 - 1, 2**31, 2**32 - 1, 2**32, -2**31, -2**31 - 1, 2**63 - 1, 2**63, 2**64 - 1, 2**64, -2**63, -2**63 - 1]
 
 
 def mutated(draw, statement):
@@ -221,7 +273,8 @@ def mutated(draw, statement):
     for _ in range(draw.choice((1, 1, 1, 2))):
         word, _, rest = statement.partition(" ")
         operands = re.findall(r"(?:[^,(]|\([^)]*\))+", rest)
-        kind = draw.choice(("operand", "operand", "order", "fewer", "more", "mnemonic", "byte", "byte", "number"))
+        kind = draw.choice(("operand", "operand", "order", "fewer", "more", "mnemonic", "byte", "byte",
+                            "number"))
         if kind == "operand" and operands:
             operands[draw.randrange(len(operands))] = draw.choice(TOKENS)
             statement = word + " " + ",".join(operands)
@@ -235,10 +288,10 @@ def mutated(draw, statement):
             operands.insert(draw.randrange(len(operands) + 1), draw.choice(TOKENS))
             statement = word + " " + ",".join(operands)
         elif kind == "mnemonic":
-            statement = draw.choice((word[:-1], word + "q", word + "l", "v" + word, word[1:], word.upper())) + " " + rest
+            words = (word[:-1], word + "q", word + "l", "v" + word, word[1:], word.upper())
+            statement = draw.choice(words) + " " + rest
         elif kind == "number":
-            statement = re.sub(r"-?\d+(?=[,(]|$)", lambda _: str(draw.choice((0, 7, 8, 15, 16, 31, 32, 63, 64, 255, 256, -1,
-                               -128, -129, 65535, 65536, 2**31 - 1, 2**31, 2**32 - 1, 2**32, -2**31, -2**31 - 1))), statement)
+            statement = re.sub(r"-?\d+(?=[,(]|$)", lambda _: str(draw.choice(EDGES)), statement)
         else:
             at = draw.randrange(len(statement) + 1)
             new = draw.choice(list("%$(),.:;#+-*/ \t0129xaqlbw_\"'\\") + ["", "\u00e4"])
