@@ -237,7 +237,7 @@ class RandomFunction:
 # what an assembler encodes otherwise, though it means the same
 
 def plainly_spelled(text):
-    """The text with the spellings that have other bytes replaced by those that are printed, and the categories found."""
+    """The text with spellings that have other bytes replaced by those that are printed, and the categories found."""
     found = set()
     lines = []
     for line in text.split("\n"):
