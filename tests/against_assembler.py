@@ -41,7 +41,7 @@ def read_back(name, insns):
         text = insn.text
         if jump:
             targets.add(int(jump[2], 16))
-            text = f"{jump[1]} .L{name}_at_{int(jump[2], 16)}"
+            text = f"{jump[1].replace('jmpq', 'jmp')} .L{name}_at_{int(jump[2], 16)}"
         elif not text.startswith("movabs"):
             text = re.sub(r"\$0x([89a-f][0-9a-f]{15})\b", lambda n: f"$-{2**64 - int(n[1], 16)}", text)
         lines.append((insn.address, re.sub(r"^repz retq?$", "rep ret", text)))

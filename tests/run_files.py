@@ -2,6 +2,7 @@
 
 The environment variable ALIGN names the program; without it that is crates/align/out/align.
 """
+import bisect
 import collections
 import os
 import pathlib
@@ -137,7 +138,7 @@ def assembled(texts, folder):
         thing, messages = assembler_run(whole, folder)
         said = collections.defaultdict(list)
         for line, error, words in messages:
-            said[chosen[max(0, len([s for s in starts if s <= line]) - 1)]].append((error, words))
+            said[chosen[max(0, bisect.bisect_right(starts, line) - 1)]].append((error, words))
         bad = [k for k in chosen if any(error for error, _ in said[k])]
         for k in bad:
             codes[k] = Code(None, None, [words for _, words in said[k]])
