@@ -119,7 +119,7 @@ def vector_statements():
     for mnemonic, words in list(insn_rows.vector_rows()) + [("movq", ["Moving", "Movq"])]:
         for w in (128, 256) if mnemonic[0] == "v" else (128,):
             for turn in range(8):
-                for operands in insn_rows.vector_operands(3 * turn + turn % 2, words, mnemonic[0] == "v", w):
+                for operands in insn_rows.vector_operands(3 * turn, words, mnemonic[0] == "v", w):
                     written = [written for written, _ in operands]
                     firsts = ["$0", "$1", "$127", "$128", "$255"] if written and written[0][0] == "$" else written[:1]
                     for first in firsts or [""]:
