@@ -4,7 +4,8 @@
     tests/against_assembler.py [COUNT] [--seed N]
 
 The texts are one function of each form of each instruction of the table, with the numbers at the edges of their
-ranges; COUNT random functions (300); as many statements of these with a random change; and the lists of odd_texts.py.
+ranges; COUNT random functions (300); as many statements, and as many functions, with a random change; and the lists of
+odd_texts.py.
 A text that both take is read by `align show`; what it prints, with labels in place of `@` and a place, is assembled
 again, and the bytes have to be those of the text. And what objdump writes of these bytes is read by `align show` again,
 which has to print the same. So the instruction that align has read is the one that the assembler has encoded.
@@ -148,12 +149,27 @@ def texts_read_otherwise(folder):
         print(f"  {reason}: {done} {n}")
 
 
-def changed_statements(draw, count, pool, folder):
-    """Statements with a random change: both take them and agree, or who refuses them."""
+def changed_statement(draw, pool):
+    """A function of one statement with a random change, the line that was changed, and the kind of the change."""
+    statement, change = odd_texts.mutated(draw, draw.choice(pool))
+    return f"f:\n\t{statement}\n\tret\n", [statement], change
+
+
+def changed_function(draw, pool, jumps):
+    """A random function with a random change of a line, that line before and after, and the kind of the change."""
+    function = function_text.RandomFunction(draw, "f", pool, jumps)
+    function.aligned = False
+    lines = function.text().split("\n")
+    at = draw.randrange(len(lines) - 1)
+    before = lines[at]
+    lines[at], change = odd_texts.changed_line(draw, before)
+    return "\n".join(lines), [before, lines[at]], change
+
+
+def changed(what, texts, folder):
+    """Texts with a change: whether both take them and agree, or who refuses them."""
     told, taken = collections.Counter(), collections.Counter()
-    for _ in range(count):
-        statement, change = odd_texts.mutated(draw, draw.choice(pool))
-        text = f"f:\n\t{statement}\n\tret\n"
+    for text, lines, change in texts:
         shown = run_files.show_text(text, "f", folder)
         if shown.insns is None:
             code = run_files.assembled_alone(text, folder)
@@ -162,10 +178,14 @@ def changed_statements(draw, count, pool, folder):
                 taken[f"{shown.kind}, change of {change}"] += 1
             continue
         done, messages = outcome("f", text, shown, folder)
-        told[f"the grammar takes, an assembler: {done}"] += 1
-        if done != "same code" and not re.match(r"\s*\.", statement):
+        if done != "same code" and any(re.match(r"\s*(\.L\S+:\s*)*\.(?!L\S+:\s*$)", line) for line in lines):
+            done += ", in a directive"
+        elif done != "same code" and any(re.match(r"\s*(\.L\S+:\s*)*[A-Za-z_$][\w.$]*:", line) for line in lines):
+            done += ", by a label that ends the body"
+        elif done != "same code":
             fail(f"an assembler: {done}", text, messages)
-    print(f"changed statements: {count}")
+        told[f"the grammar takes, an assembler: {done}"] += 1
+    print(f"{what}: {len(texts)}")
     for what, n in sorted(told.items()):
         print(f"  {what}: {n}")
     for what, n in taken.most_common():
@@ -194,7 +214,8 @@ def main():
         print("encoded otherwise, functions with")
         for category, n in sorted(found.items()):
             print(f"  {category}: {n}")
-        changed_statements(draw, options.count, pool, folder)
+        changed("changed statements", [changed_statement(draw, pool) for _ in range(options.count)], folder)
+        changed("changed functions", [changed_function(draw, pool, jumps) for _ in range(options.count)], folder)
         refused_statements(folder)
         texts_read_otherwise(folder)
     print(f"disagreements {len(failures)}")

@@ -104,6 +104,13 @@ def register_statements():
     for w, names in NAMES.items():
         for n, name in enumerate(names):
             yield f"mov{LETTER[w]} %{name},%{names[(5 * n + 3) % 16]}"
+    for n in range(16):
+        yield f"vmovdqa %ymm{n},%ymm{(5 * n + 3) % 16}"
+        yield f"vmovdqa %xmm{n},%xmm{(7 * n + 9) % 16}"
+        yield f"movdqa %xmm{n},%xmm{(5 * n + 3) % 16}"
+        yield f"vpsubd %ymm{n},%ymm{(5 * n + 3) % 16},%ymm{(3 * n + 1) % 16}"
+        yield f"vpaddd %ymm{n},%ymm{(5 * n + 3) % 16},%ymm{(3 * n + 1) % 16}"
+        yield f"vpxor %xmm{n},%xmm{(3 * n + 5) % 16},%xmm{(7 * n + 2) % 16}"
     for n, address in enumerate(ADDRESSES):
         yield f"movl {address},%{LONG[n % 16]}"
         yield f"leaq {address},%{WIDE[n % 16]}"

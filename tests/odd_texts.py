@@ -268,6 +268,26 @@ EDGES = [0, 1, 7, 8, 15, 16, 31, 32, 63, 64, 127, 128, 255, 256, -1, -128, -129,
          2**31 - 1, 2**31, 2**32 - 1, 2**32, -2**31, -2**31 - 1, 2**63 - 1, 2**63, 2**64 - 1, 2**64, -2**63, -2**63 - 1]
 
 
+def with_byte(draw, text):
+    """The text with one character changed, put in or taken out."""
+    at = draw.randrange(len(text) + 1)
+    new = draw.choice(list("%$(),.:;#+-*/ \t\r0129xaqlbwL_\"'\\") + ["", "", "\u00e4", "\x00", "\x0c"])
+    return text[:at] + new + text[at + draw.choice((0, 1)):]
+
+
+LINES = [".L1:", ".L1 :", "x:", "x: ret", "1:", "\tjmp .L1", "\tjne .Lf_0", ".Lf_0:", "\tret", "f:", "#", "", "\tnop",
+         "\t.size f, .-f", "\t.long 5", "\t.cfi_endproc", "\t.zero 0", "\trep  ret", "bogus"]
+
+
+def changed_line(draw, line):
+    """A line with a random change, and its kind: a character, the line away or twice, or another one."""
+    kind = draw.choice(("byte", "byte", "byte", "gone", "twice", "other"))
+    if kind == "byte":
+        return with_byte(draw, line), kind
+    other = draw.choice(LINES)
+    return {"gone": "", "twice": line + "\n" + line, "other": other}[kind], kind
+
+
 def mutated(draw, statement):
     """A statement with one or two changes, and the kind of the last one."""
     for _ in range(draw.choice((1, 1, 1, 2))):
@@ -293,7 +313,5 @@ def mutated(draw, statement):
         elif kind == "number":
             statement = re.sub(r"-?\d+(?=[,(]|$)", lambda _: str(draw.choice(EDGES)), statement)
         else:
-            at = draw.randrange(len(statement) + 1)
-            new = draw.choice(list("%$(),.:;#+-*/ \t0129xaqlbw_\"'\\") + ["", "\u00e4"])
-            statement = statement[:at] + new + statement[at + draw.choice((0, 1)):]
+            statement = with_byte(draw, statement)
     return statement.strip(" \t"), kind
