@@ -178,7 +178,7 @@ def changed(what, texts, folder):
                 taken[f"{shown.kind}, change of {change}"] += 1
             continue
         done, messages = outcome("f", text, shown, folder)
-        if done != "same code" and any(re.match(r"\s*(\.L\S+:\s*)*\.(?!L\S+:\s*$)", line) for line in lines):
+        if done != "same code" and any(re.match(r"\s*(\.L\S+:\s*)*\.(?!L[^\s:]*:)", line) for line in lines):
             done += ", in a directive"
         elif done != "same code" and any(re.match(r"\s*(\.L\S+:\s*)*[A-Za-z_$][\w.$]*:", line) for line in lines):
             done += ", by a label that ends the body"

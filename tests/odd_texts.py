@@ -194,7 +194,6 @@ READ_OTHERWISE = [
     ("`.struct`", "f:\n\tincq %rax\n\t.struct 0\n\tincq %rbx\n\tret\n", "other code"),
     ("`.intel_syntax`", "f:\n\t.intel_syntax noprefix\n\tmovq %rsi,%rax\n\tret\n", "other code"),
     ("`.intel_syntax`", "f:\n\t.intel_syntax noprefix\n\tmovq (%rsi),%rax\n\tret\n", "other code"),
-    ("`.mri`", "f:\n\t.mri 1\n\tincq %rax\n* no comment\n\tret\n", "refuses"),
     ("`.sse_check` and `.operand_check`", "f:\n\t.sse_check error\n\tpaddd %xmm0,%xmm1\n\tret\n", "refuses"),
     ("`.att_syntax noprefix`", "rax:\nf:\n\t.att_syntax noprefix\n\tjmp f\n\tret\n", "same code"),
     ("`.code32`", "f:\n\t.code32\n\tincl (%rdi)\n\tret\n", "refuses"),
