@@ -53,9 +53,23 @@ CLASSES = [
 ]
 
 
+# classes of operands that the table leaves out
+OPERANDS = [
+    ("shifts by a register", r"v?(ps|sh|sa|ro)[lr]\w+ [%(\d].*,"),
+    ("products of two registers' width", r"imul[wlq] [^,]*(\(.*\))?$"),
+    ("high bytes of registers", r".*%[abcd]h\b"),
+    ("jumps through a table", r"jmp \*"),
+    ("segments", r".*%[c-g]s:"),
+    ("other operands of push and pop", r"(push|pop)q "),
+    ("addresses of names", r".*[ ,]\$?[A-Za-z_.][\w.]*([+-]\d+)?(\(|,|$)"),
+]
+
+
 def class_of(kind, statement):
     """The class of a refusal, by its kind and the statement of its line."""
     mnemonic, _, rest = statement.partition(" ")
+    if mnemonic == "jmp" and re.fullmatch(r"[A-Za-z_]\w*(@PLT)?", rest):
+        return "calls"
     if kind == "pool-refused":
         return LATER if re.search(r"\.LC\w*([+-]\d+)?\(", rest) else "memory of a name"
     if kind == "unknown-instruction" and mnemonic not in TABLE:
@@ -64,20 +78,9 @@ def class_of(kind, statement):
                 return name
         return "other instructions"
     if kind == "bad-operand":
-        if re.match(r"(v?ps|sh|sa|ro)[lr]\w+ %", statement) and "," in rest:
-            return "shifts by a register"
-        if mnemonic in ("imull", "imulq", "imulw") and "," not in rest:
-            return "products of two registers' width"
-        if re.search(r"%[abcd]h\b", rest):
-            return "high bytes of registers"
-        if mnemonic == "jmp" and rest.startswith("*"):
-            return "jumps through a table"
-        if re.search(r"%[c-g]s:", rest):
-            return "segments"
-        if mnemonic in ("pushq", "popq"):
-            return "other operands of push and pop"
-        if re.search(r"(^|,)\$?[A-Za-z_.][\w.]*([+-]\d+)?(\(|,|$)", rest):
-            return "addresses of names"
+        for name, pattern in OPERANDS:
+            if re.match(pattern, statement):
+                return name
     return MEND
 
 
@@ -95,7 +98,8 @@ class Tally:
             self.instructions += len(shown.insns)
             return
         statement = " ".join(lines[shown.line - 1].split()) if shown.line else ""
-        why = class_of(shown.kind, statement)
+        alias = shown.kind == "no-function" and any(re.match(rf"\s*\.set\s+{name},", line) for line in lines)
+        why = "another name of a function" if alias else class_of(shown.kind, statement)
         self.kinds[shown.kind] += 1
         self.classes[why] += 1
         if shown.kind == "unknown-instruction":
