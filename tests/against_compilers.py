@@ -97,7 +97,7 @@ class Tally:
             self.read[setting] += 1
             self.instructions += len(shown.insns)
             return
-        statement = " ".join(lines[shown.line - 1].split()) if shown.line else ""
+        statement = " ".join(lines[shown.line - 1].split("#")[0].split()) if shown.line else ""
         alias = shown.kind == "no-function" and any(re.match(rf"\s*\.set\s+{name},", line) for line in lines)
         why = "another name of a function" if alias else class_of(shown.kind, statement)
         self.kinds[shown.kind] += 1
