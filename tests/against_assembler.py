@@ -45,9 +45,35 @@ def read_back(name, insns):
             text = f"{jump[1].replace('jmpq', 'jmp')} .L{name}_at_{int(jump[2], 16)}"
         elif not text.startswith("movabs"):
             text = re.sub(r"\$0x([89a-f][0-9a-f]{15})\b", lambda n: f"$-{2**64 - int(n[1], 16)}", text)
+            text = re.sub(r"^(v?mov\w+)\.s\b", r"\1", text)
         lines.append((insn.address, re.sub(r"^repz retq?$", "rep ret", text)))
     marked = [f".L{name}_at_{at}:\n\t{text}\n" if at in targets else f"\t{text}\n" for at, text in lines]
     return f"{name}:\n" + "".join(marked)
+
+
+def read_together(texts, folder):
+    """What is shown of functions, each (name, text, number of instructions), of which many are read as one: their
+    instructions, with jumps to places of their own."""
+    shown, start = [], 0
+    while start < len(texts):
+        end, room = start + 1, 4096 - texts[start][2]
+        while end < len(texts) and texts[end][2] <= room:
+            room -= texts[end][2]
+            end += 1
+        part = texts[start:end]
+        whole = "whole:\n" + "".join(text.partition("\n")[2] for _, text, _ in part)
+        read = run_files.show_text(whole, "whole", folder)
+        if read.insns is None:
+            shown += [run_files.show_text(text, name, folder) for name, text, _ in part]
+        else:
+            place = 0
+            for _, _, count in part:
+                own = read.insns[place:place + count]
+                own = [re.sub(r"@(\d+)$", lambda k: f"@{int(k[1]) - place}", insn) for insn in own]
+                shown.append(run_files.Shown(own, None, None))
+                place += count
+        start = end
+    return shown
 
 
 def written_one_way(insns):
@@ -78,14 +104,15 @@ def round_trips(what, texts, folder):
     printed = [run_files.text_of(name, shown[k].insns) for name, k in zip(names, chosen)]
     again = run_files.assembled(list(zip(names, printed)), folder)
     plains = run_files.assembled([(name, plain[k][0]) for name, k in zip(names, chosen)], folder)
-    for k, code, plain_code in zip(chosen, again, plains):
-        name, text = texts[k]
+    sources = [plains[n] if "alignment directives" in plain[k][1] else codes[k] for n, k in enumerate(chosen)]
+    backs = read_together([(name, read_back(name, source.insns), len(source.insns))
+                           for name, source in zip(names, sources)], folder)
+    for k, code, plain_code, back in zip(chosen, again, plains, backs):
+        text = texts[k][1]
         if code.bytes is None or code.bytes != plain_code.bytes:
             fail(f"{what}: other bytes", text, code.messages)
         if not plain[k][1] and plain_code.bytes != codes[k].bytes:
             fail(f"{what}: bytes that depend on place", text)
-        source = plain_code if "alignment directives" in plain[k][1] else codes[k]
-        back = run_files.show_text(read_back(name, source.insns), name, folder)
         if back.insns is None or written_one_way(back.insns) != written_one_way(shown[k].insns):
             fail(f"{what}: objdump's text is read otherwise", text, back)
     instructions = sum(len(shown[k].insns) for k in chosen)
