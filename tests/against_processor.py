@@ -16,6 +16,7 @@ import multiprocessing
 import os
 import pathlib
 import random
+import re
 import shutil
 import struct
 import subprocess
@@ -208,13 +209,23 @@ def compare(options, driver, top):
     return 1 if wrong else 0
 
 
+def functions_until(options, name, driver, top):
+    """How many functions were compared when a planted mistake was found, or None where it was not."""
+    for done, task in enumerate(tasks_of(options, name, driver, top)):
+        wrong = run_batch(task)[2]
+        if wrong:
+            return done * BATCH + 1 + int(re.search(r"difference: f(\d+)", wrong[0])[1])
+    return None
+
+
 def try_plants(options, driver, top):
     """Makes each planted mistake in turn; each has to give a difference. The status."""
     missed = 0
     for name in list(plants.PLANTS) if options.plant == "all" else [options.plant]:
-        found = sum(len(wrong) for _, _, wrong in run_all(tasks_of(options, name, driver, top), options.jobs))
-        missed += found == 0
-        print(f"{name}: {plants.PLANTS[name][0]}: {f'found by {found} functions' if found else 'NOT FOUND'}", flush=True)
+        needed = functions_until(options, name, driver, top)
+        missed += needed is None
+        print(f"{name}: {plants.PLANTS[name][0]}: {'NOT FOUND' if needed is None else f'found at function {needed}'}",
+              flush=True)
     print(f"planted mistakes that were not found: {missed}")
     return 1 if missed else 0
 

@@ -104,7 +104,8 @@ class Builder:
         self.inside = 0             # depth of arms and loops
         self.written = set()        # registers, and names of vectors
         self.labels = 0
-        self.faults = draw.random() < 0.07
+        self.faults = draw.random() < 0.12
+        self.computed = None        # a way, an index that was cut to a few bits, its scale and its greatest value
 
     # what every part needs
 
@@ -247,8 +248,19 @@ class Builder:
         last = way.region.length - size - way.step * (way.turns - 1)
         return [j for j in range(last + 1) if (way.region.phase + j) % align == 0]
 
+    def computed_text(self, slot):
+        """An operand whose index was computed, inside a region for each value of it; None where there is none."""
+        way, index, scale, greatest = self.computed
+        last = way.region.length - slot.bits // 8 - scale * greatest
+        if last < 0 or slot.align > 1 or ("w" in slot.role and not way.region.writable):
+            return None
+        disp = way.shift + self.draw.choice((0, last)) + (self.depth if way.base == RSP else 0)
+        return self.address_text(way.base, index, scale, disp)
+
     def memory_text(self, slot):
         """An operand in memory that lies inside a region, or None where no way leads to one."""
+        if self.computed:
+            return self.computed_text(slot)
         size, found = slot.bits // 8, []
         for way in self.ways:
             if "w" not in slot.role or way.region.writable:
@@ -287,7 +299,7 @@ class Builder:
 
     def place_text(self, slot):
         """The text of an operand in memory."""
-        if self.faults and self.chance(0.25):
+        if self.faults and self.chance(0.3 if slot.align == 1 else 0.7):
             text = self.outside_text(slot)
             if text:
                 return text
@@ -373,6 +385,23 @@ class Builder:
         self.emit(Insn(rows.BY_NAME["popq", "64"], ["%rsp"], "R"))
         self.depth -= 8
 
+    def compute_index(self):
+        """Cuts a register to a few bits, and then uses it as an index."""
+        fit = [way for way in self.ways if way.index is None and not way.step and way.region.length >= 16]
+        if not fit:
+            return
+        bits, greatest, index = self.draw.choice((32, 64)), self.draw.choice((1, 3, 7)), self.draw.choice(self.free())
+        row = rows.BY_NAME["and" + insn_rows.LETTER[bits], str(bits)]
+        self.emit(Insn(row, [f"${greatest}", "%" + insn_rows.NAMES[bits][index]], "IR", "byte"))
+        self.flags = ALL_FLAGS
+        self.written.add(index)
+        self.held.add(index)
+        self.computed = (self.draw.choice(fit), index, self.draw.choice((1, 2, 4, 8)), greatest)
+        for _ in range(3):
+            self.try_row(self.draw.choice(rows.IN_MEMORY))
+        self.computed = None
+        self.held.discard(index)
+
     def step(self):
         """One more instruction, with those that it needs before it."""
         kind = self.draw.random()
@@ -382,9 +411,15 @@ class Builder:
             self.push_and_pop_pointer()
         elif kind < 0.10 and not self.inside and self.ways:
             self.release()
+        elif kind < 0.13:
+            self.compute_index()
         else:
-            while not self.try_row(self.draw.choice(rows.PLAIN)):
+            while not self.try_row(self.some_row()):
                 pass
+
+    def some_row(self):
+        """Any row; where the function may fault, more often one whose operand in memory must be aligned."""
+        return self.draw.choice(rows.ALIGNED if self.faults and self.chance(0.1) else rows.DRAWN)
 
     def block(self, least, most):
         for _ in range(self.draw.randrange(least, most + 1)):

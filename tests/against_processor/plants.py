@@ -33,7 +33,9 @@ def other_name(op, old, new):
     """Another mnemonic in place of one with these letters."""
     def plant(insn):
         name = insn.row.mnemonic
-        return renamed(insn, name.replace(old, new)) if insn.row.op == op and old in name else None
+        if insn.row.op != op or old not in name or insn.row.detail == ("32",):
+            return None
+        return renamed(insn, name.replace(old, new))
     return plant
 
 

@@ -205,6 +205,10 @@ def vector_rows():
 ROWS = list(general_rows()) + list(vector_rows())
 JUMPS = [row for row in ROWS if row.op == "Jump"]
 PLAIN = [row for row in ROWS if row.op not in CONTROL]
+# moves by a condition have many names, so each is drawn half as often
+DRAWN = [row for row in PLAIN for _ in range(1 if row.op == "Cmov" else 2)]
+IN_MEMORY = [row for row in DRAWN if any(slot.kind == "mem" for form in row.forms for slot in form)]
+ALIGNED = [row for row in PLAIN if row.op in ("Movdqa", "Movaps")]
 BY_NAME = {(row.mnemonic, row.width_name()): row for row in ROWS}
 
 
