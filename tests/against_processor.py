@@ -1,14 +1,14 @@
 #!/usr/bin/env python3
 """Runs random functions by `align run` and on this processor, and compares how they end.
 
-    tests/against_processor.py [COUNT] [--seed N] [--jobs N] [--plant NAME|all] [--rows]
+    tests/against_processor.py [COUNT] [--seed N] [--jobs N] [--plant NAME|all] [--no-rows]
 
-COUNT functions (2000) over all rows of the instruction table are made from the seed, each with some test states. What the
-program prints of a function must be, to the byte, what the native runs make of it: how each test ends and at which step,
-the live outputs, the bytes of memory that have changed. The status is 1 where a report differs. The program is the one
-that the variable ALIGN names, else crates/align/out/align. The processor needs AVX2; without it, or without as and gcc,
-nothing is done. --plant makes a mistake on the processor's side, which must be found: the status is then 1 where it is
-not. docs/TESTING.md says more.
+COUNT functions (2000) over all rows of the instruction table are made from the seed, each with some test states. What
+the program prints of a function must be, to the byte, what the native runs make of it: how each test ends and at which
+step, the live outputs, the bytes of memory that have changed. The status is 1 where a report differs. The program is
+the one that the variable ALIGN names, else crates/align/out/align. The processor needs AVX2; without it, or without as
+and gcc, nothing is done. --plant makes a mistake on the processor's side, which must be found: the status is then 1
+where it is not. docs/TESTING.md says more.
 """
 import argparse
 import collections
@@ -119,7 +119,8 @@ def make_batch(seed, index, count):
     """The functions of a batch, with their tests."""
     draw = random.Random(f"{seed}/{index}")
     made = [functions.make_function(draw, f"f{i}") for i in range(count)]
-    return made, [[states.make_state(draw, function, k + 1) for k in range(draw.choice((2, 3, 3, 4)))] for function in made]
+    tests = [[states.make_state(draw, function, k + 1) for k in range(draw.choice((2, 3, 3, 4)))] for function in made]
+    return made, tests
 
 
 def run_batch(task):
@@ -201,7 +202,7 @@ def compare(options, driver, top):
         wrong += differences
         for text in differences:
             print(text)
-    if options.rows:
+    if not options.no_rows:
         show_rows(counts)
     show_few(counts)
     print(f"functions {options.count} seed {options.seed}; tests: {summed(ends)}; instructions {sum(counts.values())}")
@@ -245,7 +246,7 @@ def read_options():
     parser.add_argument("--seed", type=int, default=1)
     parser.add_argument("--jobs", type=int, default=os.cpu_count())
     parser.add_argument("--plant", choices=["all"] + list(plants.PLANTS))
-    parser.add_argument("--rows", action=argparse.BooleanOptionalAction, default=True, help="show the table of executions")
+    parser.add_argument("--no-rows", action="store_true", help="leave out the table of executions")
     return parser.parse_args()
 
 

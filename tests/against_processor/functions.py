@@ -1,9 +1,9 @@
 """Random functions over the rows of the instruction table: straight-line ones, with branches, and with counted loops.
 
-A function knows its regions of memory and the ways to them: a way is a base, an index and a scale whose sum, with a shift,
-is a region's address in every test. The registers of a way are not written while it is in use, so each access lies where
-it was meant to: inside, mostly at an edge, or where the function is to fault, outside of one. Flags are followed too, so
-that no instruction reads one that is not set, but for the functions that are to end there.
+A function knows its regions of memory and the ways to them: a way is a base, an index and a scale whose sum, with a
+shift, is a region's address in every test. The registers of a way are not written while it is in use, so each access
+lies where it was meant to: inside, mostly at an edge, or where the function is to fault, outside of one. Flags are
+followed too, so that no instruction reads one that is not set, but for the functions that are to end there.
 """
 from dataclasses import dataclass, field
 
@@ -45,8 +45,8 @@ class Region:
 
 @dataclass
 class Way:
-    """How an instruction names a region's bytes: byte j is at base + scale*index + shift + j. In a loop of at most so many
-    turns the base goes on by a step in each."""
+    """How an instruction names a region's bytes: byte j is at base + scale*index + shift + j. In a loop of at most so
+    many turns the base goes on by a step in each."""
     region: Region
     base: int | None
     index: int | None
@@ -579,7 +579,7 @@ class Builder:
         self.emit_return()
 
     def end_stack_fault(self):
-        """Ends at an access to the stack, a push or a pop that is not allowed, or a return with another stack pointer."""
+        """Ends at an access to the stack, a push or a pop that is not allowed, or a return with another pointer."""
         kind = self.draw.choice(("read", "write", "push", "pop", "return", "return"))
         register = "%" + WIDE[self.draw.choice(self.free())]
         if kind in ("read", "write"):

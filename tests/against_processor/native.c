@@ -6,12 +6,12 @@
  * other. JOBS begins with the pieces of the address space that tests use, the slots: their number, then of each its
  * address, its length (whole pages) and whether it may be written. Nothing is mapped around a slot, so an access that
  * leaves it faults. Then come the functions up to the end: the number of their places, the offset in CODE of each place
- * and of the end, the number of tests, and each test: the flags, the registers, the vectors, the number of its pieces of
- * memory, and of each piece its address, its length and its bytes.
+ * and of the end, the number of tests, and each test: the flags, the registers, the vectors, the number of its pieces
+ * of memory, and of each piece its address, its length and its bytes.
  *
  * A function runs by single steps. Of each test the result is the signal that ended it (0: it returned), the number of
- * steps begun, the registers, the vectors and the flags at the end (as they were before a step that faulted), the bytes of
- * each piece, and how often each place was begun. A run of more than MOST_STEPS steps ends as by SIGALRM.
+ * steps begun, the registers, the vectors and the flags (where it returned: those at the end), the bytes of each piece,
+ * and how often each place was begun. A run of more than MOST_STEPS steps ends as by SIGALRM.
  */
 #define _GNU_SOURCE
 #include <fcntl.h>

@@ -1,7 +1,7 @@
 """Planted mistakes: what the processor is given in place of an instruction, so that a good test tells a difference.
 
 Each one is a mistake that a table of instructions could have. It is made on the processor's side alone, and within the
-place of the instruction, so the number of steps stays as it is. SLOTS_PLANT makes the processor's regions wider instead.
+place of the instruction, so the number of steps stays as it is. SLOTS_PLANT makes the processor's regions wider.
 """
 import rows
 

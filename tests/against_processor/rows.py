@@ -1,8 +1,8 @@
 """The rows of the instruction table with the operands that they take, what they do with flags, and kinds of immediates.
 
-The mnemonics are read from the table's own definitions (through tests/insn_rows.py), and the flags that a condition reads
-come from tests/row_vectors.py. What stands here is how a test draws operands of them: their roles, the bytes that an
-operand in memory has, and its alignment.
+The mnemonics are read from the table's own definitions (through tests/insn_rows.py), and the flags that a condition
+reads come from tests/row_vectors.py. What stands here is how a test draws operands of them: their roles, the bytes that
+an operand in memory has, and its alignment.
 """
 from dataclasses import dataclass
 

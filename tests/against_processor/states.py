@@ -1,5 +1,4 @@
-"""Test states of functions: as JSON for the program, as jobs for the native driver; and the report that its results make.
-"""
+"""Test states of functions: as JSON for the program, as jobs for the native driver; and the report of its results."""
 import json
 import struct
 from dataclasses import dataclass, field
@@ -179,8 +178,8 @@ def tests_text(states):
 
 
 def slots_job(wider):
-    """The slots as the driver reads them; wider ones, for a planted mistake, have a page more at both ends and may all be
-    written."""
+    """The slots as the driver reads them; wider ones, for a planted mistake, have a page more at both ends and may all
+    be written."""
     slots = [(at, True) for at in WRITABLE + STACKS] + [(at, wider) for at in READABLE]
     more = 0x1000 if wider else 0
     return struct.pack("<Q", len(slots)) + b"".join(
