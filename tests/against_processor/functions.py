@@ -527,15 +527,18 @@ class Builder:
 
     def turn(self, name, letter, bits, turns, down):
         """Counts a turn, and sets the flags by which the loop goes on."""
-        row = lambda stem: rows.BY_NAME[stem + letter, str(bits)]
-        if down:
-            stem, operands = self.draw.choice((("dec", [name]), ("sub", ["$1", name]), ("add", ["$-1", name])))
-            self.emit(Insn(row(stem), operands, "IR" if len(operands) > 1 else "R", "1" if len(operands) > 1 else ""))
-        else:
-            stem, operands = self.draw.choice((("inc", [name]), ("add", ["$1", name]), ("sub", ["$-1", name])))
-            self.emit(Insn(row(stem), operands, "IR" if len(operands) > 1 else "R", "1" if len(operands) > 1 else ""))
-            self.emit(Insn(row("cmp"), [f"${turns}", name], "IR", "byte"))
-        self.flags = ALL_FLAGS
+        stems = [("dec", None), ("sub", 1), ("add", -1)] if down else [("inc", None), ("add", 1), ("sub", -1)]
+        stem, number = self.draw.choice(stems)
+        self.count(stem + letter, bits, number, name)
+        if not down:
+            self.count("cmp" + letter, bits, turns, name)
+
+    def count(self, mnemonic, bits, number, name):
+        """Emits an instruction on a counter, with an immediate or without."""
+        row = rows.BY_NAME[mnemonic, str(bits)]
+        operands = [name] if number is None else [f"${number}", name]
+        self.emit(Insn(row, operands, "IR" if number else "R", "byte" if number else ""))
+        self.flags = rows.flags_after(row, 1, self.flags)
 
     def loop_jumps(self, down):
         """The jumps by which a loop goes on while its counter is not 0, or is below its limit."""
