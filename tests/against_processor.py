@@ -26,6 +26,7 @@ import tempfile
 
 HERE = pathlib.Path(__file__).resolve().parent
 sys.path.insert(0, str(HERE / "against_processor"))
+sys.dont_write_bytecode = True
 import functions  # noqa: E402
 import plants  # noqa: E402
 import rows  # noqa: E402
@@ -189,12 +190,16 @@ def run_all(tasks, jobs):
         yield from pool.imap(run_batch, tasks)
 
 
+def program():
+    """The program that is tried."""
+    return os.path.abspath(os.environ.get("ALIGN") or str(HERE.parent / "crates/align/out/align"))
+
+
 def tasks_of(options, plant, driver, top):
     """The batches of a run."""
-    align = os.environ.get("ALIGN") or str(HERE.parent / "crates/align/out/align")
     for index, start in enumerate(range(0, options.count, BATCH)):
         count = min(BATCH, options.count - start)
-        yield options.seed, index, count, plant, os.path.abspath(align), driver, top
+        yield options.seed, index, count, plant, program(), driver, top
 
 
 def compare(options, driver, top):
@@ -245,6 +250,7 @@ def what_is_missing():
 
 
 def read_options():
+    """The command's options."""
     parser = argparse.ArgumentParser(description=__doc__.split("\n")[0])
     parser.add_argument("count", nargs="?", type=int, default=2000)
     parser.add_argument("--seed", type=int, default=1)
@@ -255,11 +261,15 @@ def read_options():
 
 
 def main():
+    """Compares, or tries planted mistakes; the status."""
     options = read_options()
     missing = what_is_missing()
     if missing:
         print(f"skipped: {missing}")
         return 0
+    if not os.access(program(), os.X_OK):
+        print(f"build the program first: there is no {program()}", file=sys.stderr)
+        return 2
     with tempfile.TemporaryDirectory(dir="/dev/shm" if os.path.isdir("/dev/shm") else None) as top:
         driver = os.path.join(top, "native")
         subprocess.run(["gcc", "-O2", "-o", driver, str(HERE / "against_processor/native.c")], check=True)

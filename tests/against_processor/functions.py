@@ -110,13 +110,16 @@ class Builder:
     # what every part needs
 
     def emit(self, item):
+        """Appends an instruction or a label."""
         self.function.items.append(item)
 
     def label(self):
+        """A new label of this function."""
         self.labels += 1
         return f".L{self.function.name[1:]}_{self.labels}"
 
     def chance(self, p):
+        """Whether something of this probability is so."""
         return self.draw.random() < p
 
     def free(self):
@@ -151,6 +154,7 @@ class Builder:
             region.base, region.size = self.base_text(ways[0]), self.size_text(length)
 
     def stack_way(self, region):
+        """The way to a region above the return slot, by the stack pointer."""
         return Way(region, RSP, None, 1, self.draw.choice((8, 8, 16, 32)))
 
     def new_way(self, region):
@@ -193,6 +197,7 @@ class Builder:
         self.drop(way)
 
     def drop(self, way):
+        """Ends the use of a way: its registers may be written again."""
         self.ways.remove(way)
         used = {n for other in self.ways for n in (other.base, other.index)}
         self.held -= {n for n in (way.base, way.index) if n is not None and n not in used}
@@ -207,6 +212,7 @@ class Builder:
         return "%" + insn_rows.NAMES[bits][n]
 
     def vector_text(self, bits, role):
+        """A vector register."""
         n = self.draw.randrange(16)
         if "w" in role:
             self.written.add(f"v{n}")
@@ -358,12 +364,14 @@ class Builder:
             self.push()
 
     def push(self):
+        """Pushes any register."""
         n = self.draw.randrange(16)
         self.emit(Insn(rows.BY_NAME["pushq", "64"], ["%" + WIDE[n]], "R"))
         self.depth += 8
         self.deepest = max(self.deepest, self.depth)
 
     def pop(self):
+        """Pops a free register, or moves the stack pointer back over what was pushed."""
         if self.chance(0.2):
             back = 8 * self.draw.randrange(1, self.depth // 8 + 1)
             if self.chance(0.5):
@@ -422,6 +430,7 @@ class Builder:
         return self.draw.choice(rows.ALIGNED if self.faults and self.chance(0.1) else rows.DRAWN)
 
     def block(self, least, most):
+        """Some steps."""
         for _ in range(self.draw.randrange(least, most + 1)):
             self.step()
 
@@ -433,6 +442,7 @@ class Builder:
         self.emit(Insn(row, [target], "L"))
 
     def jump_row(self):
+        """A jump by a condition, behind an instruction that sets the flags it reads where they are not set."""
         row = self.draw.choice(rows.JUMPS)
         self.set_flags(rows.reads(row))
         return row
@@ -559,6 +569,7 @@ class Builder:
         self.emit_return()
 
     def emit_return(self):
+        """A return, by one of its three names."""
         name = self.draw.choice(RETURNS)
         row = rows.BY_NAME["retq" if name == "retq" else "ret", "64"]
         self.emit(Insn(row, [], name=name))
@@ -617,6 +628,7 @@ class Builder:
         self.function.live = [self.output_name(n) for n in chosen]
 
     def output_name(self, n):
+        """The name of a register or a vector as an output, mostly as wide as it is."""
         if isinstance(n, int):
             return "%" + insn_rows.NAMES[self.draw.choice((8, 16, 32, 64, 64, 64, 64, 64))][n]
         return f"%{self.draw.choice(('xmm', 'ymm', 'ymm', 'ymm'))}{n[1:]}"

@@ -50,12 +50,14 @@ def other_control(op, change):
 
 
 def sub_reversed(insn):
+    """The negation of a difference."""
     if insn.row.op != "Sub" or insn.kinds not in ("RR", "IR"):
         return None
     return [insn.text(), f"neg{plain_name(insn)[1]} {insn.operands[1]}"]
 
 
 def cmp_reversed(insn):
+    """A comparison of its operands in the other order."""
     if insn.row.op != "Cmp" or insn.kinds != "RR":
         return None
     return [f"{insn.row.mnemonic} {insn.operands[1]},{insn.operands[0]}"]
@@ -85,6 +87,7 @@ def vex_keeps_upper(insn):
 
 
 def increment_sets_carry(insn):
+    """A sum or difference in place of one that keeps the carry."""
     if insn.row.op not in ("Inc", "Dec"):
         return None
     stem = "add" if insn.row.op == "Inc" else "sub"
@@ -92,6 +95,7 @@ def increment_sets_carry(insn):
 
 
 def byte_write_clears(insn):
+    """A byte that is widened by zeros in place of one that is copied."""
     if insn.row.op != "Mov" or insn.row.width != 8 or insn.kinds != "RR":
         return None
     wide = rows.insn_rows.LONG[rows.insn_rows.BYTE.index(insn.operands[1][1:])]
@@ -106,6 +110,7 @@ def false_cmov_keeps(insn):
 
 
 def push_new_pointer(insn):
+    """A push of the stack pointer that stores its value after it."""
     if insn.row.op != "Push" or insn.operands != ["%rsp"]:
         return None
     return ["leaq -8(%rsp),%rsp", "movq %rsp,(%rsp)"]
@@ -135,10 +140,12 @@ def shift_of_top(insn):
 
 
 def masked_count(number, insn):
+    """A count modulo the width of the lanes."""
     return number % rows.LANES[insn.row.detail[0]]
 
 
 def reversed_fields(number, _):
+    """The four fields of a control in the other order."""
     return sum((number >> (2 * k) & 3) << (6 - 2 * k) for k in range(4))
 
 
@@ -161,6 +168,7 @@ def low_address(insn):
 
 
 def low_mask(insn):
+    """The mask of the low half."""
     if insn.row.op != "Pmovmskb" or insn.row.width != 256:
         return None
     return [f"vpmovmskb %xmm{insn.operands[0][4:]},{insn.operands[1]}"]

@@ -53,18 +53,22 @@ class Row:
 
 
 def reg(bits, role="r"):
+    """A general register."""
     return Slot("reg", bits, role)
 
 
 def mem(bits, role="r", align=1):
+    """Memory."""
     return Slot("mem", bits, role, align)
 
 
 def vec(bits, role="r"):
+    """A vector register."""
     return Slot("vec", bits, role)
 
 
 def imm(numbers, bits=0):
+    """An immediate, drawn by one of NUMBERS."""
     return Slot("imm", bits, numbers=numbers)
 
 
@@ -74,11 +78,13 @@ def either(bits, role="r"):
 
 
 def binary_forms(w, role):
+    """Two operands of w bits, of which one at most is in memory; the second one has the role."""
     sources = [imm("general", w), reg(w), mem(w)]
     return [(s, d) for s in sources for d in either(w, role) if not (s.kind == "mem" and d.kind == "mem")]
 
 
 def imul_forms(w):
+    """The forms of products: of two operands, and of three with an immediate."""
     three = [(imm("general", w), s, reg(w, "w")) for s in either(w)]
     return [(s, reg(w, "rw")) for s in either(w)] + [(imm("general", w), reg(w, "rw"))] + three
 
@@ -132,6 +138,7 @@ def vector_sources(op, detail, vex, w):
 
 
 def copy_forms(op, vex, w):
+    """Copies between vectors, or between a vector and memory."""
     return [(vec(w), vec(w, "w")), (mem(w, "r", alignment(op, vex, w)), vec(w, "w")),
             (vec(w), mem(w, "w", alignment(op, vex, w)))]
 
@@ -186,12 +193,14 @@ def vector_forms(op, detail, vex, w):
 
 
 def general_rows():
+    """The rows without vectors; where a suffix may be left out, one for each width."""
     for mnemonic, (op, *detail), width in insn_rows.rows():
         for w in (width,) if width else (16, 32, 64):
             yield Row(mnemonic, op, tuple(detail), w, "", tuple(general_forms(op, detail, w)))
 
 
 def vector_rows():
+    """The rows of vectors, at each width that they have."""
     named = list(insn_rows.vector_rows()) + [("movq", ["Moving", "Movq"])]
     for mnemonic, words in named:
         op, *detail = (word for word in words if word not in ("Lanewise", "Moving"))
@@ -247,6 +256,7 @@ def general_number(draw, w):
 
 
 def wide_number(draw, w):
+    """The same for an immediate of 64 bits."""
     classes = {"0": 0, "-1": -1, "least": -(1 << 63), "unsigned": draw.randrange(1 << 63, 1 << 64),
                "greatest": (1 << 64) - 1, "any": draw.randrange(-(1 << 63), 1 << 63)}
     name = draw.choice(list(classes))
@@ -254,12 +264,14 @@ def wide_number(draw, w):
 
 
 def count_number(draw, w):
+    """The same for the count of a shift."""
     classes = {"1": 1, "w-1": w - 1, "any": draw.randrange(1, w)}
     name = draw.choice(list(classes))
     return name, classes[name]
 
 
 def lane_number(draw, w):
+    """The same for the count of a shift of lanes of w bits."""
     classes = {"0": 0, "1": 1, "below": draw.randrange(1, w), "w-1": w - 1, "w": w, "above": draw.randrange(w + 1, 256),
                "255": 255}
     name = draw.choice(list(classes))
@@ -267,12 +279,14 @@ def lane_number(draw, w):
 
 
 def byte_number(draw, w):
+    """The same for a shift by bytes."""
     classes = {"0": 0, "below": draw.randrange(1, 16), "15": 15, "16": 16, "above": draw.randrange(17, 256)}
     name = draw.choice(list(classes))
     return name, classes[name]
 
 
 def control_number(draw, w):
+    """The same for a control."""
     classes = {"0": 0, "255": 255, "any": draw.randrange(256)}
     return draw.choice([("0", 0), ("255", 255)] + [("any", classes["any"])] * 4)
 

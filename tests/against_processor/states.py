@@ -54,6 +54,7 @@ def default_reg(n, k):
 
 
 def default_vec(n, k):
+    """A vector that a test does not name."""
     return bytes((13 * n + 7 * i + 29 * k) % 256 for i in range(32))
 
 
