@@ -40,14 +40,17 @@ is_middle Word = true
 is_middle Doubleword = true
 is_middle _ = false
 
+-- lanes of a byte
 abbrev pub is_byte : LaneWidth → Bool
 is_byte Byte = true
 is_byte _ = false
 
+-- lanes of a word
 abbrev pub is_word : LaneWidth → Bool
 is_word Word = true
 is_word _ = false
 
+-- lanes of a quadword
 abbrev pub is_quadword : LaneWidth → Bool
 is_quadword Quadword = true
 is_quadword _ = false

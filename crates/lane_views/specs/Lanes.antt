@@ -15,10 +15,11 @@ abbrev pub number : List ℕ → ℕ
 number [] = 0
 number (b ∷ bs) = b + 256 * number bs
 
--- byte k of a number, and its n lowest bytes
+-- byte k of a number, the lowest being byte 0
 abbrev pub byte_of : ℕ → ℕ → ℕ
 byte_of v k = v / 2 ^ (8 * k) % 256
 
+-- the n lowest bytes of a number, the lowest first
 unfoldable pub bytes_of : ℕ → ℕ → List ℕ
 bytes_of n v = map (byte_of v) (range_with_len 0 n)
 
