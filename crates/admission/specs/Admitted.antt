@@ -2,7 +2,8 @@
 use Rattle.std.specs.Prelude.{ℕ, ◌≡◌, ◌≢◌, ◌+◌, ◌%◌, ◌^◌, ◌<◌, ◌≤◌, List, Some, map, slice_get, slice_index}
 use Rattle.std.specs.List.{AllByRecursion}
 use Rattle.machine.specs.declared.state.Region.{Region}
-use Rattle.machine.specs.Machine.{IsStart, Machine, offset_from}
+use Rattle.machine.specs.Machine.{IsStart, Machine}
+use Rattle.memory_spans.specs.Memory.{offset_from}
 use Rattle.admission.specs.declared.expr.Expr.{Expr}
 use Rattle.admission.specs.declared.admission.Rel.{Rel}
 use Rattle.admission.specs.declared.admission.Rel.TheVariants.{Eq, Ne, Lt, Le, Slt, Sle}

@@ -2,7 +2,7 @@
 use Rattle.std.specs.Prelude.{ℕ, ◌+◌, ◌-◌, ◌%◌, ◌^◌, Bool, false, not, ◌&&◌, ◌||◌, ◌==◌, nat_lt, nat_le, List, Some, Option, slice_get, slice_index}
 use Rattle.std.specs.List.{list_all}
 use Rattle.machine.specs.declared.state.Region.{Region}
-use Rattle.machine.specs.Machine.{offset_from}
+use Rattle.memory_spans.specs.Memory.{offset_from}
 use Rattle.admission.specs.declared.admission.Rel.{Rel}
 use Rattle.admission.specs.declared.admission.Rel.TheVariants.{Eq, Ne, Lt, Le, Slt, Sle}
 use Rattle.admission.specs.declared.admission.Need.{Need}

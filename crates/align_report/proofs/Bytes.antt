@@ -1,8 +1,7 @@
 -- Bytes as texts.
 use Rattle.std.proofs.Common.{◌≡◌, ℕ, suc, ◌+◌, ◌/◌, ◌%◌, ◌^◌, ◌<◌, false, List, [], ◌∷◌, ◌++◌, add-one, append-nil, append_assoc, get_or, length, take, refl, sym, ◌∙◌, ap, arith}
 use Rattle.std.proofs.lemmas.List.{take_more}
-use Rattle.machine.specs.Machine.{address_plus}
-use Rattle.machine.specs.Memory.{bytes_at}
+use Rattle.memory_spans.specs.Memory.{address_plus, bytes_at}
 use Rattle.align_report.specs.Values.{byte_text, bytes_text}
 
 -- one byte more

@@ -11,7 +11,8 @@ use Rattle.runs.specs.declared.ends.RunEnd.{RunEnd}
 use Rattle.runs.specs.declared.ends.RunEnd.TheVariants.{Returned, Faulted, Unset, Running}
 use Rattle.machine.specs.declared.state.Region.{Region}
 use Rattle.machine.specs.Frame.{SameUnwritable, has_address, is_writable}
-use Rattle.machine.specs.Machine.{Machine, offset_from}
+use Rattle.machine.specs.Machine.{Machine}
+use Rattle.memory_spans.specs.Memory.{offset_from}
 use Rattle.machine.specs.Step.{step_of}
 use Rattle.admission.specs.declared.admission.Admission.{Admission}
 use Rattle.admission.specs.Admitted.{regions_of}

@@ -3,7 +3,7 @@
 -- A run of changed bytes is a longest range of addresses below 2^64 at which two memories differ. Each run is cut from
 -- its start into pieces of 32 bytes, of which the last may be shorter.
 use Rattle.std.specs.Prelude.{◌≡◌, ◌⊎◌, ℕ, ◌+◌, ◌^◌, ◌<◌, ◌≤◌, List, [], ◌∷◌, ◌++◌, codes}
-use Rattle.machine.specs.Memory.{bytes_at}
+use Rattle.memory_spans.specs.Memory.{bytes_at}
 use Rattle.align_report.specs.Values.{bytes_text, value_text}
 
 -- no byte from an address on, up to another, has changed

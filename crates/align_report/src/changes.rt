@@ -1,7 +1,7 @@
 //! The lines of the bytes that have changed.
 ghost use Rattle.std.specs.Prelude.{◌≡◌, ◌+◌, ◌++◌, ◌==◌, ◌^◌, ◌<◌, ◌≤◌, ℕ, OnOk, false, not, string_bytes};
 ghost use Rattle.machine.specs.Kept.{pure_of};
-ghost use Rattle.machine.specs.Memory.{bytes_at};
+ghost use Rattle.memory_spans.specs.Memory.{bytes_at};
 ghost use Rattle.test_states.specs.Ranges.{AreApart, IsRange, is_covered};
 ghost use Rattle.align_report.specs.Changes.{ChangedFrom, EndsRun, piece_line};
 ghost use Rattle.align_report.specs.Values.{bytes_text};

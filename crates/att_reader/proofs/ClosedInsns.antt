@@ -6,7 +6,7 @@ use Rattle.align_base.specs.declared.op.Op.{Op}
 use Rattle.insn_table.specs.declared.insn.Operand.{Operand}
 use Rattle.insn_table.specs.declared.insn.Operand.TheVariants.{Reg, Imm, Mem, Vec, Pool, Target, Nothing}
 use Rattle.insn_table.specs.declared.insn.Insn.{Insn}
-use Rattle.insn_table.specs.declared.shape.Shape.{Shape}
+use Rattle.mnemonic_table.specs.declared.shape.Shape.{Shape}
 use Rattle.insn_table.specs.declared.fitting.Misfit.{Misfit}
 use Rattle.insn_table.specs.declared.fitting.Misfit.TheVariants as misfits
 use Rattle.insn_table.specs.Classes.{Form, numbers_fit}

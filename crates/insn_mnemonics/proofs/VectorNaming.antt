@@ -9,11 +9,11 @@ use Rattle.align_base.specs.declared.vector_op.MoveOp.{MoveOp}
 use Rattle.align_base.specs.declared.vector_op.MoveOp.TheVariants as moves
 use Rattle.align_base.specs.declared.vector_op.VectorOp.{VectorOp}
 use Rattle.align_base.specs.declared.vector_op.VectorOp.TheVariants.{Lanewise, Moving, Pmaddwd, Psadbw, Pshufb, Pmovmskb, Vzeroupper}
-use Rattle.insn_table.specs.Rows.{general, named}
-use Rattle.insn_table.specs.Spellings.{table_rows}
-use Rattle.insn_table.specs.LegacyRows.{add_to_cltq, cmova_to_cmovnc, cmovne_to_cmovz, cmp_to_lea, mov_to_or, packss_to_pop, por_to_sar, set_rows, shl_to_test, xor_rows}
-use Rattle.insn_table.specs.VexRows.{vand_to_vpbroadcast, vpcmp_to_vpmul, vpor_to_vzeroupper}
-use Rattle.insn_table.specs.Widths.{has_lanes, has_move, has_vectors, vector_width}
+use Rattle.mnemonic_table.specs.Rows.{general, named}
+use Rattle.mnemonic_table.specs.Spellings.{table_rows}
+use Rattle.mnemonic_table.specs.LegacyRows.{add_to_cltq, cmova_to_cmovnc, cmovne_to_cmovz, cmp_to_lea, mov_to_or, packss_to_pop, por_to_sar, set_rows, shl_to_test, xor_rows}
+use Rattle.mnemonic_table.specs.VexRows.{vand_to_vpbroadcast, vpcmp_to_vpmul, vpor_to_vzeroupper}
+use Rattle.mnemonic_table.specs.Widths.{has_lanes, has_move, has_vectors, vector_width}
 use Rattle.insn_mnemonics.specs.Mnemonics.{mnemonic}
 
 -- the printed mnemonic names the row

@@ -1,10 +1,10 @@
 //! The mnemonic that is printed of an operation.
 ghost use Rattle.std.specs.Prelude.{◌≡◌, ◌++◌, Some, Ok, OnOk, string_bytes};
 ghost use Rattle.insn_table.specs.declared.insn.Insn.{Insn};
-ghost use Rattle.insn_table.specs.declared.shape.Shape.{Shape};
+ghost use Rattle.mnemonic_table.specs.declared.shape.Shape.{Shape};
 ghost use Rattle.insn_table.specs.Forms.{fits_of};
-ghost use Rattle.insn_table.specs.Rows.{named};
-ghost use Rattle.insn_table.specs.Spellings.{table_rows};
+ghost use Rattle.mnemonic_table.specs.Rows.{named};
+ghost use Rattle.mnemonic_table.specs.Spellings.{table_rows};
 ghost use Rattle.insn_table.specs.Table.{IsTableInsn};
 ghost use Rattle.insn_mnemonics.specs.Mnemonics.{mnemonic};
 

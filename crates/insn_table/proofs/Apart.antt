@@ -1,5 +1,5 @@
 -- At most one form of an operation takes given operands.
-use Rattle.std.proofs.Common.{◌≡◌, ℕ, zero, suc, ◌+◌, ◌≤◌, Bool, true, false, cond, if◌then◌else◌, List, [], ◌∷◌, Some, slice_get, refl, sym, subst, arith}
+use Rattle.std.proofs.Common.{◌≡◌, ℕ, zero, suc, ◌+◌, ◌≤◌, Bool, true, false, cond, if◌then◌else◌, List, [], ◌∷◌, Some, slice_get, refl, subst, arith}
 use Rattle.std.specs.List.{count_by}
 use Rattle.std.specs.Cmp.Lexicographic.{pointwise}
 use Rattle.std.proofs.lemmas.List.Sums.{count_by-le-length}
@@ -15,10 +15,10 @@ use Rattle.insn_table.specs.declared.insn.Operand.TheVariants.{Imm, Nothing, Vec
 use Rattle.insn_table.specs.declared.classes.Class.{Class}
 use Rattle.insn_table.specs.declared.classes.Class.TheVariants.{Register, Writable, Readable, Immediate, Address, VectorRegister, VectorSource, Control, Absent}
 use Rattle.insn_table.specs.Classes.{Form, two, three, takes_kind, takes}
-use Rattle.insn_table.specs.VectorForms.{copied, exchanged, extracted, moved_quadword, joined, shuffled, only_low, only_wide, move_forms, forms_at, is_vector_width, vector_forms}
+use Rattle.insn_table.specs.VectorForms.{copied, exchanged, extracted, moved_quadword, joined, shuffled, move_forms, forms_at, is_vector_width}
 use Rattle.insn_table.specs.Forms.{forms, general_forms}
-use Rattle.insn_table.specs.Widths.{is_wide}
-use Rattle.insn_table.proofs.Bools.{both_true}
+use Rattle.mnemonic_table.specs.Widths.{is_wide}
+use Rattle.mnemonic_table.proofs.Bools.{both_true}
 
 one_of_two : (a b : Bool) → (a ≡ true → b ≡ true → ⊥) → 0 + cond a 1 0 + cond b 1 0 ≤ 1
 one_of_two true true f = absurd (f refl refl)

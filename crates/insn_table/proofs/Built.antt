@@ -7,15 +7,15 @@ use Rattle.align_base.specs.declared.op.Op.TheVariants.{Jmp, Ret}
 use Rattle.insn_table.specs.declared.insn.Operand.{Operand}
 use Rattle.insn_table.specs.declared.insn.Operand.TheVariants.{Reg, Mem, Vec, Target}
 use Rattle.insn_table.specs.declared.insn.Insn.{Insn}
-use Rattle.insn_table.specs.declared.shape.Shape.{Shape}
+use Rattle.mnemonic_table.specs.declared.shape.Shape.{Shape}
 use Rattle.insn_table.specs.declared.build_error.BuildError.TheVariants.{Empty, TargetOutside, FallsOff}
-use Rattle.insn_table.specs.Rows.{named}
-use Rattle.insn_table.specs.Spellings.{table_rows}
+use Rattle.mnemonic_table.specs.Rows.{named}
+use Rattle.mnemonic_table.specs.Spellings.{table_rows}
 use Rattle.insn_table.specs.Forms.{fits_of}
 use Rattle.insn_table.specs.Closed.{IsClosed, IsInside, IsLeaving}
 use Rattle.insn_table.specs.Table.{HasRegisters, IsScale, IsTableInsn}
 use Rattle.insn_table.specs.Building.{four_of, is_known, is_scale, has_registers, is_inside, goes_inside, is_leaving, leaves, fault_of, IsDraft}
-use Rattle.insn_table.proofs.Bools.{both_true, either_true}
+use Rattle.mnemonic_table.proofs.Bools.{both_true, either_true}
 use Rattle.insn_table.proofs.ClosedLists.{closed_list}
 use Rattle.insn_table.proofs.TableInsns.{fitted-insn}
 

@@ -1,9 +1,6 @@
-pub mod Rows
-pub mod Shapes
 pub mod Judging
 pub mod TableInsns
 pub mod Apart
-pub mod Bools
 pub mod ClosedLists
 pub mod Closing
 pub mod Built

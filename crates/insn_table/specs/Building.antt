@@ -6,14 +6,14 @@ use Rattle.align_base.specs.declared.op.Op.TheVariants.{Jmp, Ret}
 use Rattle.insn_table.specs.declared.insn.Operand.{Operand}
 use Rattle.insn_table.specs.declared.insn.Operand.TheVariants.{Reg, Mem, Vec, Target, Nothing}
 use Rattle.insn_table.specs.declared.insn.Insn.{Insn}
-use Rattle.insn_table.specs.declared.shape.Shape.{Shape}
+use Rattle.mnemonic_table.specs.declared.shape.Shape.{Shape}
 use Rattle.insn_table.specs.declared.fitting.Misfit.{Misfit}
 use Rattle.insn_table.specs.declared.fitting.Misfit.TheVariants.{BadOperand}
 use Rattle.insn_table.specs.declared.assembling.Statement.{Statement}
 use Rattle.insn_table.specs.declared.build_error.BuildError.{BuildError}
 use Rattle.insn_table.specs.declared.build_error.BuildError.TheVariants.{UnknownMnemonic, Unfit, BadRegister, TooMany, Empty, TargetOutside, FallsOff}
-use Rattle.insn_table.specs.Rows.{named}
-use Rattle.insn_table.specs.Spellings.{table_rows}
+use Rattle.mnemonic_table.specs.Rows.{named}
+use Rattle.mnemonic_table.specs.Spellings.{table_rows}
 use Rattle.insn_table.specs.Forms.{fits_of}
 use Rattle.insn_table.specs.Table.{IsTableInsn}
 

@@ -8,14 +8,14 @@ use Rattle.align_base.specs.declared.vector_op.MoveOp.TheVariants.{Movq}
 use Rattle.insn_table.specs.declared.insn.Operand.{Operand}
 use Rattle.insn_table.specs.declared.insn.Operand.TheVariants.{Reg, Imm, Mem, Vec, Nothing}
 use Rattle.insn_table.specs.declared.insn.Insn.{Insn}
-use Rattle.insn_table.specs.declared.shape.Shape.{Shape}
+use Rattle.mnemonic_table.specs.declared.shape.Shape.{Shape}
 use Rattle.insn_table.specs.declared.classes.Class.TheVariants.{Register, Writable, Readable, Source, Immediate, Wide, Count, Address, Label}
 use Rattle.insn_table.specs.declared.fitting.Misfit.{Misfit}
 use Rattle.insn_table.specs.declared.fitting.Misfit.TheVariants.{BadOperand, BadNumber}
 use Rattle.insn_table.specs.Classes.{Form, none, one, two, three, takes, numbers_fit}
-use Rattle.insn_table.specs.Rows.{general}
+use Rattle.mnemonic_table.specs.Rows.{general}
 use Rattle.insn_table.specs.VectorForms.{vector_forms}
-use Rattle.insn_table.specs.Widths.{is_wide, is_shape}
+use Rattle.mnemonic_table.specs.Widths.{is_wide, is_shape}
 
 -- The forms of a general operation of w bits. A move by condition has none of 8 bits, nor one of 0 bits: there its suffix
 -- was left out, and its destination is no register.

@@ -1,10 +1,5 @@
 pub mod Closed
 pub mod Plain
-pub mod Rows
-pub mod LegacyRows
-pub mod VexRows
-pub mod Spellings
-pub mod Widths
 pub mod Classes
 pub mod VectorForms
 pub mod Forms

@@ -1,10 +1,9 @@
 //! The instructions that `align` reads and runs, and functions made of them.
 //!
-//! The instruction table has a row for each mnemonic: its operation and the width of its form. Each
-//! operation has its forms, which say by a class for each operand what the operation takes. `look_up`
-//! finds a mnemonic's row, `fits` makes an instruction of a row's shape and operands, and `assemble`
-//! does both. What they answer is exactly what `specs/` says, with the reason of each refusal: an
-//! instruction that was made is one of the table (`IsTableInsn`).
+//! Each operation has its forms, which say by a class for each operand what the operation takes. `fits`
+//! makes an instruction of a shape, which a mnemonic names (`look_up` of `mnemonic_table`), and of
+//! operands; `assemble` does both. What they answer is exactly what `specs/` says, with the reason of each
+//! refusal: an instruction that was made is one of the table (`IsTableInsn`).
 //!
 //! A `FunctionBuilder` makes closed functions: each instruction is one of the table, each jump goes to
 //! one of them, and the last one returns or jumps (`IsClosed`).
@@ -23,19 +22,13 @@ mod assembling;
 mod build_error;
 mod builder;
 mod classes;
-mod finding;
 mod fitting;
 mod form;
 mod forms;
 mod insn;
 mod items;
-mod legacy_rows;
-mod shape;
-mod spellings;
 mod table;
 mod vector_forms;
-mod vex_rows;
-mod widths;
 
 pub use align_base::{Cond, Flags, Op};
 pub use assembling::{Statement, assemble};
@@ -44,8 +37,7 @@ pub use builder::{FunctionBuilder, assemble_function};
 pub use fitting::{Misfit, fits};
 pub use insn::{Function, Insn, Insns, Operand};
 pub use items::{Bytes, Items};
-pub use shape::Shape;
-pub use spellings::{look_up, mnemonics_stand_once, rows_are_named, rows_have_shapes};
+pub use mnemonic_table::{Shape, look_up, mnemonics_stand_once, rows_are_named, rows_have_shapes};
 pub use table::{
     fitted_insns_are_of_the_table, forms_are_apart, plain_functions_are_closed,
     table_insns_have_mnemonics,

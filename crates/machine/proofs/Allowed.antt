@@ -1,22 +1,23 @@
 -- What is allowed lies in spans.
-use Rattle.std.proofs.Common.{◌≡◌, inl, inr, ℕ, ◌+◌, ◌-◌, ◌/◌, ◌%◌, ◌^◌, ◌<◌, ◌≤◌, Bool, true, false, not, nat_lt, ◌&&◌, ◌||◌, List, [], ◌∷◌, refl, sym, subst, arith}
+use Rattle.std.proofs.Common.{◌≡◌, inl, inr, ℕ, ◌+◌, ◌-◌, ◌/◌, ◌%◌, ◌^◌, ◌<◌, ◌≤◌, Bool, true, false, not, nat_lt, ◌&&◌, ◌||◌, List, [], ◌∷◌, refl, subst, arith}
 use Rattle.std.specs.List.{AllByRecursion, list_all, list_any}
 use Rattle.std.proofs.lemmas.Bool.Decides.{nat_tests}
 use Rattle.align_base.specs.declared.op.Op.{Op}
 use Rattle.align_base.specs.declared.op.Op.TheVariants as ops
-use Rattle.insn_table.proofs.Bools.{both_true, either_true}
+use Rattle.mnemonic_table.proofs.Bools.{both_true, either_true}
 use Rattle.insn_table.specs.declared.insn.Insn.{Insn}
 use Rattle.insn_table.specs.declared.insn.Operand.{Operand}
 use Rattle.insn_table.specs.declared.insn.Operand.TheVariants.{Reg, Imm, Mem, Vec, Pool, Target, Nothing}
 use Rattle.machine.specs.declared.state.Region.{Region}
 use Rattle.machine.specs.Access.{Access, access_of, accesses, are_aligned, arity, holds_access, is_allowed, is_on_stack, operand_accesses, target_width, writes}
-use Rattle.machine.specs.Kept.{IsKept, IsRegion, Kept, is_spanned, pure_of}
-use Rattle.machine.specs.Machine.{offset_from, stack_base}
+use Rattle.machine.specs.Kept.{IsKept, IsRegion, Kept, pure_of}
+use Rattle.memory_spans.specs.Spans.{is_spanned}
+use Rattle.memory_spans.specs.Memory.{offset_from}
+use Rattle.machine.specs.Machine.{stack_base}
 use Rattle.machine.specs.Operands.{effective_address, operand}
 use Rattle.machine.specs.Runnable.{IsGeneralRegister}
 use Rattle.machine.specs.Spanned.{AreSpanned, IsSpanned}
 use Rattle.machine.specs.Step.{target_operand}
-use Rattle.machine.specs.declared.operands.Family.{Family}
 use Rattle.machine.specs.declared.operands.Family.TheVariants.{OnVectors}
 use Rattle.machine.specs.Family.{family_of}
 use Rattle.machine.specs.Vectors.{last_operand}

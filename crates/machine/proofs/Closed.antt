@@ -1,5 +1,5 @@
 -- Closed functions can be run: what the table says of an instruction is what running it needs.
-use Rattle.std.proofs.Common.{◌≡◌, ◌⊎◌, ℕ, zero, suc, ◌-◌, ◌<◌, ◌==◌, Bool, true, false, not, ◌&&◌, ◌||◌, if◌then◌else◌, inl, inr, List, [], ◌∷◌, length, slice_get, unwrap_or, Some, None, cond, refl, sym, ◌∙◌, subst, arith, ⊎_elim}
+use Rattle.std.proofs.Common.{◌≡◌, ◌⊎◌, ℕ, zero, suc, ◌-◌, ◌<◌, ◌==◌, Bool, true, false, ◌&&◌, ◌||◌, if◌then◌else◌, inl, inr, List, [], ◌∷◌, length, slice_get, unwrap_or, Some, None, cond, refl, sym, ◌∙◌, subst, arith, ⊎_elim}
 use Rattle.std.specs.List.{AllByRecursion, find, list_any}
 use Rattle.std.specs.Cmp.Lexicographic.{pointwise}
 use Rattle.std.proofs.lemmas.Bool.{ltb-true}
@@ -14,16 +14,15 @@ use Rattle.insn_table.specs.declared.insn.Operand.{Operand}
 use Rattle.insn_table.specs.declared.insn.Operand.TheVariants.{Reg, Imm, Mem, Vec, Pool, Target, Nothing}
 use Rattle.insn_table.specs.declared.classes.Class.{Class}
 use Rattle.insn_table.specs.declared.classes.Class.TheVariants.{Register, Readable, Writable, Count, Address, Label, Absent}
-use Rattle.insn_table.specs.declared.shape.Shape.{Shape}
+use Rattle.mnemonic_table.specs.declared.shape.Shape.{Shape}
 use Rattle.insn_table.specs.Classes.{Form, is_target, number_fits, numbers_fit, one, takes, takes_kind, two, is_nothing}
-use Rattle.insn_table.specs.Rows.{general}
-use Rattle.insn_table.specs.Widths.{has_shape, has_suffix, has_width, is_long, is_shape, is_wide, widens_to}
-use Rattle.insn_table.specs.Forms.{forms, insn_of, chosen, is_quadword_move, is_vector, told_width, width_of}
+use Rattle.mnemonic_table.specs.Rows.{general}
+use Rattle.mnemonic_table.specs.Widths.{has_shape, has_suffix, has_width, is_long, is_shape, is_wide, widens_to}
+use Rattle.insn_table.specs.Forms.{forms, chosen, is_quadword_move, is_vector, told_width, width_of}
 use Rattle.insn_table.specs.Closed.{IsClosed, IsInside}
 use Rattle.insn_table.specs.Table.{HasRegisters, IsTableInsn}
-use Rattle.insn_table.proofs.Bools.{both_true, either_true}
+use Rattle.mnemonic_table.proofs.Bools.{both_true, either_true}
 use Rattle.insn_table.proofs.TableInsns.{IsMade, fitted-made, wide-cases}
-use Rattle.machine.specs.declared.operands.Family.{Family}
 use Rattle.machine.specs.Access.{arity}
 use Rattle.machine.specs.Family.{family_of, vector_family}
 use Rattle.machine.specs.Operands.{operand}

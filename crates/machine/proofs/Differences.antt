@@ -11,12 +11,13 @@ use Rattle.align_base.specs.declared.output.Output.{Output}
 use Rattle.align_base.specs.declared.output.Output.TheVariants.{Vec}
 use Rattle.machine.specs.declared.difference.Difference.{Difference}
 use Rattle.machine.specs.declared.difference.Difference.TheVariants.{Out, Byte}
-use Rattle.machine.specs.declared.state.Span.{Span}
+use Rattle.memory_spans.specs.declared.span.Span.{Span}
 use Rattle.machine.specs.Difference.{Agree, IsFirstByte, IsFirstDifference, IsFirstOutput, OtherByte, SameByte, SameEnd}
 use Rattle.machine.specs.Differing.{AreSame, IsFirstAmong, lesser}
-use Rattle.machine.specs.Kept.{AreOrdered, byte_of, is_spanned, Kept, pure_of, spans_address}
+use Rattle.memory_spans.specs.Spans.{AreOrdered, byte_of, is_spanned, spans_address}
+use Rattle.machine.specs.Kept.{Kept, pure_of}
 use Rattle.machine.specs.Machine.{Machine}
-use Rattle.machine.proofs.Ordering.{addressed_from}
+use Rattle.memory_spans.proofs.Ordering.{addressed_from}
 
 by_test : (b : Bool) (P : Type 0) → Decides b P → MatchBool b P (P → ⊥)
 by_test true P d = d.0 refl

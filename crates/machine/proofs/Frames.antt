@@ -18,8 +18,8 @@ use Rattle.machine.specs.declared.operands.Family.TheVariants.{Address, Computin
 use Rattle.machine.specs.Access.{Access, access_of, accesses, allows, allows_by, are_aligned, holds_access, is_allowed, is_on_stack, stack_pointer, target_width, writes}
 use Rattle.machine.specs.Family.{family_of}
 use Rattle.machine.specs.Frame.{IsWritable, SameFrame, SameUnwritable, has_address, is_writable}
-use Rattle.machine.specs.Machine.{Machine, offset_from, stack_base}
-use Rattle.machine.specs.Memory.{with_bytes, with_word}
+use Rattle.machine.specs.Machine.{Machine, stack_base}
+use Rattle.memory_spans.specs.Memory.{offset_from, with_bytes, with_word}
 use Rattle.machine.specs.Vectors.{after_vectors, last_operand, vector_result, with_vector}
 use Rattle.machine.specs.Operands.{effective_address, operand, with_value}
 use Rattle.runs.specs.Run.{Step, Goes, run_of}
@@ -32,7 +32,7 @@ use Rattle.runs.proofs.Runs.{run_keeps}
 use Rattle.machine.proofs.VectorFamilies.{IsOfWords, vectors_write, words_of, words_width}
 use Rattle.machine.proofs.Writing.{row_allowed, written_allowed}
 use Rattle.machine.proofs.Closed.{lea_register}
-use Rattle.machine.proofs.MemoryWords.{with_word-if, written_past}
+use Rattle.memory_spans.proofs.MemoryWords.{with_word-if, written_past}
 
 -- the frame
 

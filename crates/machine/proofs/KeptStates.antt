@@ -1,14 +1,15 @@
 -- What keeps a state kept: the same spans in place, the same regions, the same entry and stack.
-use Rattle.std.proofs.Common.{◌≡◌, ℕ, ◌+◌, ◌<◌, ◌≤◌, ◌^◌, ◌%◌, true, List, [], ◌∷◌, length, refl, sym, ◌∙◌, ap, subst}
+use Rattle.std.proofs.Common.{◌≡◌, ℕ, ◌+◌, ◌<◌, ◌≤◌, ◌^◌, ◌%◌, true, List, [], ◌∷◌, length, sym, ◌∙◌, ap, subst}
 use Rattle.std.specs.List.{AllByRecursion}
 use Rattle.machine.specs.declared.state.Region.{Region}
-use Rattle.machine.specs.declared.state.Span.{Span}
+use Rattle.memory_spans.specs.declared.span.Span.{Span}
 use Rattle.machine.specs.Holding.{IsHeld}
-use Rattle.machine.specs.Kept.{IsKept, IsRegion, Kept, byte_of, is_spanned, pure_of}
+use Rattle.machine.specs.Kept.{IsKept, IsRegion, Kept, pure_of}
+use Rattle.memory_spans.specs.Spans.{is_spanned, places, contents}
 use Rattle.machine.specs.Machine.{IsInStack, Machine}
-use Rattle.machine.specs.Spans.{places}
-use Rattle.machine.specs.Start.{IsCopy, contents}
-use Rattle.machine.proofs.Ordering.{ordered_by_places, spanned_by_places}
+use Rattle.machine.specs.Start.{IsCopy}
+use Rattle.memory_spans.proofs.Ordering.{ordered_by_places, spanned_by_places}
+use Rattle.memory_spans.proofs.Contents.{byte_by_contents}
 
 region_kept : (a b : Machine) (r : Region) → b.entry ≡ a.entry → b.stack ≡ a.stack → IsRegion a r → IsRegion b r
 region_kept a b r entry stack h = record {
@@ -46,34 +47,6 @@ held_by_places old new regs entry vecs stack regions spans h = record {
   vecs = vecs;
   kept = kept_by_places old new entry stack regions spans h.kept;
 }
-
-first_content : (a b : ℕ × List ℕ) (more rest : List (ℕ × List ℕ)) → a ∷ more ≡ b ∷ rest → a ≡ b
-first_content a b more rest e = cc
-
-more_contents : (a b : ℕ × List ℕ) (more rest : List (ℕ × List ℕ)) → a ∷ more ≡ b ∷ rest → more ≡ rest
-more_contents a b more rest e = cc
-
--- spans of the same contents stand at the same places
-pub places_by_contents : (old new : List Span) → contents new ≡ contents old → places new ≡ places old
-places_by_contents [] [] e = refl
-places_by_contents [] (n ∷ ns) e = cc
-places_by_contents (s ∷ ss) [] e = cc
-places_by_contents (s ∷ ss) (n ∷ ns) e =
-    let first = first_content (n.at, n.bytes.items) (s.at, s.bytes.items) (contents ns) (contents ss) e in
-    let more = more_contents (n.at, n.bytes.items) (s.at, s.bytes.items) (contents ns) (contents ss) e in
-    λ i. ((first i).0, length (first i).1) ∷ places_by_contents ss ns more i
-
--- spans of the same contents have the same bytes
-pub byte_by_contents : (old new : List Span) (x : ℕ) → contents new ≡ contents old → byte_of new x ≡ byte_of old x
-byte_by_contents [] [] x e = refl
-byte_by_contents [] (n ∷ ns) x e = cc
-byte_by_contents (s ∷ ss) [] x e = cc
-byte_by_contents (s ∷ ss) (n ∷ ns) x e =
-    let first = first_content (n.at, n.bytes.items) (s.at, s.bytes.items) (contents ns) (contents ss) e in
-    let more = more_contents (n.at, n.bytes.items) (s.at, s.bytes.items) (contents ns) (contents ss) e in
-    let at : n.at ≡ s.at = ap (λ (p : ℕ × List ℕ). p.0) first in
-    let bytes : n.bytes.items ≡ s.bytes.items = ap (λ (p : ℕ × List ℕ). p.1) first in
-    rw (at, bytes, byte_by_contents ss ns x more) refl
 
 -- a state with spans of the same contents is a copy
 pub copy_of : (k : Kept) (spans : List Span) (regions : List Region) → contents spans ≡ contents k.spans → regions ≡ k.regions

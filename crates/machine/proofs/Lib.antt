@@ -1,26 +1,21 @@
 mod Cases
 pub mod Allowed
-pub mod ByteRanges
-pub mod Bytewise
+pub mod StartRanges
 pub mod Differences
 pub mod Families
 pub mod Frames
 pub mod Keeping
 pub mod KeptStates
-pub mod MemoryWords
 pub mod Moves
-pub mod Ordering
 pub mod PlainLaws
 pub mod PlainRuns
 pub mod RowValues
 pub mod Closed
 pub mod StateRanges
 pub mod Targets
-pub mod VectorBytes
 pub mod VectorFamilies
 pub mod VectorFrames
 pub mod VectorRanges
 pub mod VectorTable
 pub mod VectorWrites
-pub mod Words
 pub mod Writing

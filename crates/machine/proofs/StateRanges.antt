@@ -17,17 +17,17 @@ use Rattle.machine.specs.declared.operands.Family.{Family}
 use Rattle.machine.specs.declared.operands.Family.TheVariants.{Computing, OnVectors, Clearing, Address, Choice, Setting, Branch, Jump, Pushing, Popping, Return, Idle}
 use Rattle.machine.specs.Access.{source_width, stack_pointer, writes}
 use Rattle.machine.specs.Family.{family_of}
-use Rattle.machine.specs.Machine.{AreRegs, IsState, Machine, address_plus, offset_from}
-use Rattle.machine.specs.Memory.{with_word, word_at}
+use Rattle.machine.specs.Machine.{IsState, Machine}
+use Rattle.memory_spans.specs.Memory.{address_plus, offset_from, with_word, word_at}
 use Rattle.machine.specs.Operands.{effective_address, register_after, operand, value_of, with_value}
 use Rattle.runs.specs.Run.{Step, Goes, run_of}
 use Rattle.runs.proofs.Guarding.{guarded-goes}
 use Rattle.machine.specs.Runnable.{HasWidth, IsRunnable, IsRunnableFunction, IsWidth}
 use Rattle.machine.specs.Step.{after_row, allows_step, after_change, free_step, destination_operand, destination_value, register_number, result_of, row_leaves, source_operand, source_value, step_of, target_operand}
-use Rattle.machine.proofs.Bytewise.{byte_in_front}
+use Rattle.memory_spans.proofs.Bytewise.{byte_in_front}
 use Rattle.machine.proofs.Families.{free-goes}
 use Rattle.machine.proofs.Keeping.{set_regs}
-use Rattle.machine.proofs.MemoryWords.{with_word-if, word_at-suc}
+use Rattle.memory_spans.proofs.MemoryWords.{with_word-if, word_at-suc}
 use Rattle.machine.proofs.RowValues.{address_result, choice_result, choice_source, computes, row_computes, setting_result, source_is_width, source_read}
 use Rattle.runs.proofs.Runs.{run_keeps}
 use Rattle.machine.proofs.Targets.{target_numbers}

@@ -1,5 +1,5 @@
 -- Families of operations on words, and that those on vectors are others.
-use Rattle.std.proofs.Common.{◌≡◌, ◌⊎◌, true, inl, inr, ℕ, refl, sym, subst, arith}
+use Rattle.std.proofs.Common.{◌≡◌, true, inl, inr, ℕ, refl, sym, subst, arith}
 use Rattle.align_base.specs.declared.op.Op.{Op}
 use Rattle.align_base.specs.declared.op.Op.TheVariants as ops
 use Rattle.align_base.specs.declared.vector_op.VectorOp.{VectorOp}

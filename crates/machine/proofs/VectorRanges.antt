@@ -1,5 +1,5 @@
 -- A step on vectors keeps each value of a state in its range.
-use Rattle.std.proofs.Common.{◌≡◌, ◌⊎◌, inl, inr, ℕ, zero, suc, ◌+◌, ◌-◌, ◌*◌, ◌/◌, ◌%◌, ◌^◌, ◌<◌, ◌≤◌, ◌==◌, Bool, true, false, if◌then◌else◌, List, [], ◌∷◌, ◌++◌, length, take, drop, map, get_or, slice_get, slice_index, slice_set, Some, refl, sym, ◌∙◌, ap, subst, arith, lit<, length-append}
+use Rattle.std.proofs.Common.{◌≡◌, inl, inr, ℕ, zero, suc, ◌+◌, ◌-◌, ◌*◌, ◌/◌, ◌^◌, ◌<◌, ◌≤◌, Bool, true, false, List, [], ◌∷◌, ◌++◌, length, take, drop, map, get_or, slice_get, slice_set, Some, refl, sym, ◌∙◌, ap, subst, arith, lit<, length-append}
 use Rattle.std.specs.Prelude.{replicate}
 use Rattle.std.proofs.Math.ListN.{length-set}
 use Rattle.std.proofs.Math.Nat.{pow-suc, pow-le-pow_right}
@@ -28,12 +28,13 @@ use Rattle.vector_semantics.specs.Widths.{bits}
 use Rattle.machine.specs.declared.operands.Family.TheVariants.{OnVectors}
 use Rattle.machine.specs.Access.{target_width}
 use Rattle.machine.specs.Family.{family_of}
-use Rattle.machine.specs.Machine.{AreRegs, AreVecs, IsState, Machine, offset_from}
-use Rattle.machine.specs.Memory.{with_bytes}
-use Rattle.machine.specs.Operands.{effective_address, operand}
+use Rattle.machine.specs.Machine.{AreVecs, IsState, Machine}
+use Rattle.memory_spans.specs.Memory.{offset_from}
+use Rattle.machine.specs.Operands.{effective_address}
 use Rattle.machine.specs.Runnable.{HasRowOf, HasVectorRow, IsRunnable}
 use Rattle.machine.specs.Vectors.{after_clearing, after_vectors, cleared_above, last_operand, vector_at, vector_result, with_vector, written_vector}
-use Rattle.machine.proofs.ByteRanges.{AreBytes, IsVec}
+use Rattle.memory_spans.proofs.ByteRanges.{AreBytes}
+use Rattle.machine.proofs.StartRanges.{IsVec}
 use Rattle.machine.proofs.Keeping.{set_regs}
 
 -- bytes

@@ -1,6 +1,6 @@
 -- What the table says of an operation on vectors is what its row needs: lanes of widths that there are, in vectors of 128 or
 -- 256 bits.
-use Rattle.std.proofs.Common.{◌≡◌, ◌⊎◌, inl, inr, ℕ, ◌≤◌, ◌==◌, Bool, true, false, not, ◌&&◌, ◌||◌, if◌then◌else◌, List, [], ◌∷◌, Option, Some, refl, arith, ⊎_elim}
+use Rattle.std.proofs.Common.{◌≡◌, inl, inr, ℕ, ◌≤◌, ◌==◌, Bool, true, false, not, ◌&&◌, if◌then◌else◌, List, [], ◌∷◌, Some, refl, arith, ⊎_elim}
 use Rattle.std.specs.List.{find}
 use Rattle.std.proofs.lemmas.Bool.Decides.{Decides-eqb}
 use Rattle.align_base.specs.declared.vector_op.LaneWidth.{LaneWidth}
@@ -12,9 +12,9 @@ use Rattle.align_base.specs.declared.vector_op.MoveOp.TheVariants as moves
 use Rattle.align_base.specs.declared.vector_op.VectorOp.{VectorOp}
 use Rattle.align_base.specs.declared.vector_op.VectorOp.TheVariants.{Lanewise, Moving, Vzeroupper}
 use Rattle.insn_table.specs.Classes.{Form}
-use Rattle.insn_table.specs.Widths.{has_lanes, has_move, has_vectors, is_byte, is_middle, is_narrow, is_quadword, is_word, widens}
+use Rattle.mnemonic_table.specs.Widths.{has_lanes, has_move, has_vectors, is_byte, is_middle, is_narrow, is_quadword, is_word, widens}
 use Rattle.insn_table.specs.VectorForms.{exchanged, extracted, forms_at, is_vector_width, joined, move_forms, moved_quadword, only_low, only_wide, shuffled, vector_forms}
-use Rattle.insn_table.proofs.Bools.{both_true, either_true}
+use Rattle.mnemonic_table.proofs.Bools.{both_true, either_true}
 use Rattle.vector_semantics.specs.LaneRows.{IsLaneRow}
 use Rattle.vector_semantics.specs.MoveRows.{HasMoveWidths, IsMoveRow, Widens}
 use Rattle.vector_semantics.specs.VectorRows.{IsVectorWidth}

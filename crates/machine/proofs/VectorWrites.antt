@@ -2,9 +2,10 @@
 use Rattle.std.proofs.Common.{◌≡◌, ℕ, zero, suc, ◌+◌, ◌<◌, ◌≤◌, Bool, List, [], ◌∷◌, ◌++◌, length, take, drop, map, get_or, slice_set, refl, sym, ◌∙◌, ap, arith, add-one, append_assoc}
 use Rattle.std.specs.Prelude.{slice_index_or}
 use Rattle.std.proofs.Math.Seq.{drop-cons, get_or-append_seam}
-use Rattle.std.proofs.lemmas.List.{get_or-map, length-map, length-take-le, map-append, map-set, take_more}
+use Rattle.std.proofs.lemmas.List.{length-map, length-take-le, map-append, map-set, take_more}
 use Rattle.lane_views.specs.declared.Bytes32.{Bytes32}
 use Rattle.machine.specs.Vectors.{cleared_above, written_vector}
+use Rattle.memory_spans.proofs.VectorBlocks.{set_behind}
 
 -- the bytes of a vector
 abbrev bytes_in : Bytes32 → List ℕ
@@ -26,12 +27,6 @@ pub vector_put : (vecs : List Bytes32) (r : ℕ) (v : Bytes32) (vex : Bool) (new
 vector_put vecs r v vex new e =
     map-set bytes_in vecs r v
     ∙ ap (λ (bytes : List ℕ). slice_set (map bytes_in vecs) r bytes) (e ∙ ap (λ (old : List ℕ). written_vector vex old new) (read_bytes vecs r))
-
-set_behind : (xs ys : List (List ℕ)) (y v : List ℕ) (k : ℕ) → length xs ≡ k → slice_set (xs ++ y ∷ ys) k v ≡ xs ++ v ∷ ys
-set_behind [] ys y v zero e = refl
-set_behind [] ys y v (suc k) e = absurd (omega (arith, e))
-set_behind (x ∷ xs) ys y v zero e = absurd (omega (arith, e))
-set_behind (x ∷ xs) ys y v (suc k) e = ap (λ (zs : List (List ℕ)). x ∷ zs) (set_behind xs ys y v k (omega (arith, e)))
 
 read_behind : (xs ys : List (List ℕ)) (y : List ℕ) (k : ℕ) → length xs ≡ k → get_or (xs ++ y ∷ ys) k [] ≡ y
 read_behind xs ys y k e = ap (λ (n : ℕ). get_or (xs ++ y ∷ ys) n []) (sym e) ∙ get_or-append_seam xs y ys []
@@ -74,3 +69,14 @@ past_all (x ∷ xs) (suc n) h = ap (λ (ys : List (List ℕ)). cleared_above x �
 pub all_cleared : (all now : List Bytes32) (n : ℕ) → length all ≤ n
     → map bytes_in now ≡ map cleared_above (take n (map bytes_in all)) ++ drop n (map bytes_in all) → map bytes_in now ≡ map cleared_above (map bytes_in all)
 all_cleared all now n past so_far = so_far ∙ past_all (map bytes_in all) n (omega (arith, past, length-map all bytes_in))
+
+-- the next low byte stands in place of a high vector's
+pub low_next : (low high : List ℕ) (k : ℕ) (byte : ℕ) → k < 32 → length low ≡ 32 → length high ≡ 32 → byte ≡ get_or low k byte
+    → slice_set (take k low ++ drop k high) k byte ≡ take (k + 1) low ++ drop (k + 1) high
+low_next low high k byte h size whole e =
+    let first : length (take k low) ≡ k = length-take-le k low (omega (arith, h, size)) in
+    let more : take (k + 1) low ≡ take k low ++ get_or low k byte ∷ [] = take_more low k byte (omega (arith, h, size)) in
+    let rest : drop k high ≡ get_or high k 0 ∷ drop (k + 1) high = drop-cons high k 0 (omega (arith, h, whole)) ∙ ap (λ (n : ℕ). get_or high k 0 ∷ drop n high) (sym (add-one k)) in
+    rw (rest, more, ← e, append_assoc) (set_behind (take k low) (drop (k + 1) high) (get_or high k 0) byte k first)
+
+pub ruleset next_low = (low_next)

@@ -12,7 +12,8 @@ use Rattle.machine.specs.declared.operands.Family.{Family}
 use Rattle.machine.specs.declared.operands.Family.TheVariants.{Address, OnVectors, Popping, Pushing, Return}
 use Rattle.machine.specs.declared.state.Region.{Region}
 use Rattle.machine.specs.Family.{family_of}
-use Rattle.machine.specs.Machine.{Machine, offset_from, stack_base}
+use Rattle.machine.specs.Machine.{Machine, stack_base}
+use Rattle.memory_spans.specs.Memory.{offset_from}
 use Rattle.machine.specs.Operands.{effective_address, operand}
 use Rattle.machine.specs.VectorAccess.{alignment, is_aligned, vector_source_width, vector_target_width}
 

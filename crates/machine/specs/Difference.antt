@@ -9,7 +9,8 @@ use Rattle.align_base.specs.declared.output.Output.{Output}
 use Rattle.align_base.specs.declared.output.Output.TheVariants.{Reg, Vec}
 use Rattle.machine.specs.declared.difference.Difference.{Difference}
 use Rattle.machine.specs.declared.difference.Difference.TheVariants.{Out, Byte}
-use Rattle.machine.specs.Machine.{IsInStack, Machine, offset_from}
+use Rattle.machine.specs.Machine.{IsInStack, Machine}
+use Rattle.memory_spans.specs.Memory.{offset_from}
 use Rattle.machine.specs.Runnable.{IsWidth}
 
 -- an output that there is: one of the sixteen registers, and a width that it has

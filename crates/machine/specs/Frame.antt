@@ -9,7 +9,8 @@ use Rattle.machine.specs.declared.operands.Family.{Family}
 use Rattle.machine.specs.declared.operands.Family.TheVariants.{Clearing, OnVectors}
 use Rattle.machine.specs.declared.state.Region.{Region}
 use Rattle.machine.specs.Family.{family_of}
-use Rattle.machine.specs.Machine.{Machine, offset_from, stack_base}
+use Rattle.machine.specs.Machine.{Machine, stack_base}
+use Rattle.memory_spans.specs.Memory.{offset_from}
 use Rattle.machine.specs.Vectors.{last_operand}
 
 -- the entry registers, the regions and the stack range

@@ -6,12 +6,10 @@ pub mod Frame
 pub mod Holding
 pub mod Kept
 pub mod Machine
-pub mod Memory
 pub mod Operands
 pub mod Ready
 pub mod Runnable
 pub mod Spanned
-pub mod Spans
 pub mod Start
 pub mod Step
 pub mod VectorAccess

@@ -3,9 +3,10 @@
 --
 -- Registers, flags and vectors are those of Intel's Software Developer's Manual. Regions, the stack range and the
 -- rule for stack bytes are this project's own.
-use Rattle.std.specs.Prelude.{◌≡◌, ℕ, ◌+◌, ◌-◌, ◌^◌, ◌%◌, ◌<◌, List, [], length, None, slice_get, slice_index, Some}
+use Rattle.std.specs.Prelude.{◌≡◌, ℕ, ◌+◌, ◌^◌, ◌<◌, List, [], length, None, slice_get, slice_index, Some}
 use Rattle.align_base.specs.declared.op.Flags.{Flags}
 use Rattle.machine.specs.declared.state.Region.{Region}
+use Rattle.memory_spans.specs.Memory.{offset_from}
 
 -- the state of the machine
 pub record Machine : Type 0 where
@@ -38,14 +39,6 @@ pub record IsState (s : Machine) : Type 0 where
 -- all flags unset, as at the entry
 abbrev pub no_flags : Flags
 no_flags = record { cf = None; pf = None; zf = None; sf = None; of = None }
-
--- an address plus an offset, modulo 2^64
-abbrev pub address_plus : ℕ → ℕ → ℕ
-address_plus at offset = (at + offset) % 2 ^ 64
-
--- how far an address lies behind a base, modulo 2^64
-abbrev pub offset_from : ℕ → ℕ → ℕ
-offset_from base at = (at + (2 ^ 64 - base)) % 2 ^ 64
 
 -- the stack pointer, register 4, at the entry
 abbrev pub entry_pointer : Machine → ℕ

@@ -5,7 +5,7 @@ use Rattle.insn_table.specs.declared.insn.Insn.{Insn}
 use Rattle.insn_table.specs.declared.insn.Operand.{Operand}
 use Rattle.insn_table.specs.declared.insn.Operand.TheVariants.{Reg, Imm, Mem, Vec, Pool, Target, Nothing}
 use Rattle.machine.specs.Machine.{Machine}
-use Rattle.machine.specs.Memory.{word_at, with_word}
+use Rattle.memory_spans.specs.Memory.{word_at, with_word}
 
 -- a displacement modulo 2^64
 abbrev pub displacement : ℤ → ℕ

@@ -2,7 +2,8 @@
 use Rattle.std.specs.Prelude.{◌≡◌, ℕ, ◌+◌, ◌/◌, ◌%◌, ◌^◌, ◌<◌, true}
 use Rattle.insn_table.specs.declared.insn.Operand.{Operand}
 use Rattle.insn_table.specs.declared.insn.Operand.TheVariants.{Reg, Imm, Mem, Vec, Pool, Target, Nothing}
-use Rattle.machine.specs.Kept.{Kept, is_spanned}
+use Rattle.machine.specs.Kept.{Kept}
+use Rattle.memory_spans.specs.Spans.{is_spanned}
 use Rattle.machine.specs.Operands.{effective_address}
 
 -- each of the n bytes from an address on lies in a span

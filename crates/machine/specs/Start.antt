@@ -2,9 +2,10 @@
 use Rattle.std.specs.Prelude.{◌≡◌, ℕ, List, map}
 use Rattle.lane_views.specs.declared.Bytes32.{Bytes32}
 use Rattle.machine.specs.declared.state.Region.{Region}
-use Rattle.machine.specs.declared.state.Span.{Span}
+use Rattle.memory_spans.specs.declared.span.Span.{Span}
 use Rattle.machine.specs.Kept.{Kept, pure_of}
 use Rattle.machine.specs.Machine.{no_flags}
+use Rattle.memory_spans.specs.Spans.{contents}
 
 -- the start state with these registers, vectors, spans, regions and number of declared stack bytes
 abbrev pub kept_start : List ℕ → List Bytes32 → List Span → List Region → ℕ → Kept
@@ -18,10 +19,6 @@ kept_start regs vecs spans regions stack = record {
   stack = stack;
   place = 0;
 }
-
--- what spans hold: their addresses and bytes
-abbrev pub contents : List Span → List (ℕ × List ℕ)
-contents spans = map (λ span. (span.at, span.bytes.items)) spans
 
 -- the same state, in spans of the same contents
 pub record IsCopy (old new : Kept) : Type 0 where

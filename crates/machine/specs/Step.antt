@@ -18,8 +18,8 @@ use Rattle.machine.specs.declared.operands.Family.{Family}
 use Rattle.machine.specs.declared.operands.Family.TheVariants.{Branch, Choice, Clearing, Idle, Jump, OnVectors, Popping, Pushing, Return, Setting}
 use Rattle.machine.specs.Access.{allows, arity, source_width, stack_pointer, writes}
 use Rattle.machine.specs.Family.{family_of, holds_of}
-use Rattle.machine.specs.Machine.{Machine, address_plus, offset_from}
-use Rattle.machine.specs.Memory.{with_word, word_at}
+use Rattle.machine.specs.Machine.{Machine}
+use Rattle.memory_spans.specs.Memory.{address_plus, offset_from, with_word, word_at}
 use Rattle.machine.specs.Operands.{address_of, operand, value_of, with_value}
 use Rattle.machine.specs.Vectors.{after_clearing, after_vectors}
 use Rattle.runs.specs.Run.{Step, Goes, Returns, Faults, MeetsUnset, guarded, tested}

@@ -13,7 +13,7 @@ use Rattle.lane_views.specs.Lanes.{lane, with_lane}
 use Rattle.vector_semantics.specs.Vectors.{vector_of}
 use Rattle.machine.specs.Access.{arity, source_width, target_width}
 use Rattle.machine.specs.Machine.{Machine}
-use Rattle.machine.specs.Memory.{bytes_at, with_bytes}
+use Rattle.memory_spans.specs.Memory.{with_bytes, vector_from}
 use Rattle.machine.specs.Operands.{effective_address, operand}
 
 -- the place of the first operand that is no immediate
@@ -28,10 +28,6 @@ control_of _ = 0
 -- what vector register n holds
 abbrev pub vector_at : Machine → ℕ → List ℕ
 vector_at s n = get_or s.vecs n []
-
--- n bytes from an address on, and zeros behind them
-abbrev pub vector_from : (ℕ → ℕ) → ℕ → ℕ → List ℕ
-vector_from memory at n = bytes_at memory at n ++ replicate (32 - n) 0
 
 -- a word of 64 bits, and zeros above it
 abbrev pub low_word : ℕ → List ℕ

@@ -6,13 +6,15 @@ ghost use Rattle.machine.specs.Difference as difference;
 ghost use Rattle.machine.specs.Difference.{Agree, AgreeBefore, IsFirstByte, IsFirstDifference, IsFirstOutput, IsOutput, OtherByte, SameByte, SameEnd};
 ghost use Rattle.machine.specs.Differing as differing;
 ghost use Rattle.machine.specs.Differing.{AreSame, IsFirstAmong};
-ghost use Rattle.machine.specs.Kept.{AreOrdered, is_spanned, pure_of, spans_address};
+ghost use Rattle.memory_spans.specs.Spans.{AreOrdered, is_spanned, spans_address};
+ghost use Rattle.machine.specs.Kept.{pure_of};
 ghost use Rattle.machine.specs.Machine.{IsInStack, Machine};
 ghost use Rattle.machine.specs.declared.difference.Difference.{Difference};
 
 use crate::operands::low_bits;
-use crate::state::{Span, State};
+use crate::state::State;
 use align_base::Output;
+use memory_spans::Span;
 
 /// Where two returned states first differ.
 #[derive(Clone, Copy, Debug, PartialEq, Eq)]

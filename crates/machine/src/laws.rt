@@ -1,5 +1,5 @@
-//! Laws of steps, runs and memory, as contracts of functions that do nothing.
-ghost use Rattle.std.specs.Prelude.{◌≡◌, ℕ, ◌+◌, ◌*◌, ◌%◌, ◌^◌, ◌<◌, ◌≤◌, true, false, List, Option, Some, length, max, slice_get, slice_index};
+//! Laws of steps and runs, as contracts of functions that do nothing.
+ghost use Rattle.std.specs.Prelude.{◌≡◌, ℕ, ◌+◌, ◌*◌, ◌^◌, ◌<◌, true, false, List, Option, Some, length, max, slice_get, slice_index};
 ghost use Rattle.std.specs.List.{list_any};
 ghost use Rattle.insn_table.specs.declared.insn.Insn.{Insn};
 ghost use Rattle.insn_table.specs.Plain.{IsPlain};
@@ -7,8 +7,7 @@ ghost use Rattle.insn_table.specs.Closed.{IsClosed};
 ghost use Rattle.machine.specs.Difference.{SamePlainEnd};
 ghost use Rattle.runs.specs.Equivalent.{AreEquivalent};
 ghost use Rattle.machine.specs.Frame.{SameFrame, SameUnwritable, SameVector, writes_vector};
-ghost use Rattle.machine.specs.Machine.{IsPlainStart, IsState, Machine, offset_from};
-ghost use Rattle.machine.specs.Memory.{bytes_at, bytes_of_number, number_of_bytes, with_bytes};
+ghost use Rattle.machine.specs.Machine.{IsPlainStart, IsState, Machine};
 ghost use Rattle.runs.specs.Path.{Arrived, Back, FallsAtFirst, FallsWithin, Fell, Through, allowed_along, way};
 ghost use Rattle.runs.specs.Run.{Goes, IsOver, later, run_of};
 ghost use Rattle.runs.specs.declared.ends.RunEnd.{RunEnd};
@@ -70,16 +69,6 @@ pub fn way_law()
     ensures fell { (insns : List Insn) (pool : List ℕ) (path : List ℕ) (next : Option ℕ) (s : Machine)
         → way (λ u. u.place) (step_of insns pool) path next s ≡ Fell
         → FallsWithin (step_of insns pool) s (length path) }
-{}
-
-/// The law of a memory: bytes that were written are read back, each byte past them stays as it was,
-/// and the n low bytes of a number make the number modulo 256^n. It does nothing.
-pub fn memory_law()
-    ensures read_back { (memory : ℕ → ℕ) (at : ℕ) (bytes : List ℕ) → at < 2 ^ 64 → length bytes ≤ 2 ^ 64
-        → bytes_at (with_bytes memory at bytes) at (length bytes) ≡ bytes }
-    ensures others { (memory : ℕ → ℕ) (at : ℕ) (bytes : List ℕ) (x : ℕ) → length bytes ≤ offset_from at x
-        → with_bytes memory at bytes x ≡ memory x }
-    ensures number { (n word : ℕ) → number_of_bytes (bytes_of_number n word) ≡ word % 256 ^ n }
 {}
 
 /// The law of what a step and a run leave as it was, with any instructions and pool: the entry

@@ -18,15 +18,15 @@ mod difference;
 mod laws;
 mod operands;
 mod ranges;
-mod spans;
 mod state;
 mod vector_access;
 mod vectors;
 
 pub use difference::{Difference, difference_law};
 pub use laws::{
-    memory_law, path_law, plain_functions_agree, plain_functions_return, run_law, state_law,
-    step_frame_law, way_law,
+    path_law, plain_functions_agree, plain_functions_return, run_law, state_law, step_frame_law,
+    way_law,
 };
+pub use memory_spans::{Span, memory_law};
 pub use runs::{RunEnd, StepEnd};
-pub use state::{Region, Span, State};
+pub use state::{Region, State};

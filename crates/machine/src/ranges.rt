@@ -1,11 +1,10 @@
 //! Laws that numbers of machine types are in their ranges. They only go over them.
 ghost use Rattle.std.specs.Prelude.{◌≡◌, ℕ, ◌^◌, ◌<◌, length, map, slice_index};
 ghost use Rattle.lane_views.specs.declared.Bytes32.{Bytes32};
-ghost use Rattle.machine.specs.Kept.{byte_of};
 ghost use Rattle.machine.specs.Machine.{AreRegs, AreVecs};
 
-use crate::state::Span;
 use lane_views::Bytes32;
+use memory_spans::are_bytes;
 
 /// The law that sixteen registers are of 64 bits.
 pub fn are_regs(regs: &[u64; 16])
@@ -17,15 +16,6 @@ pub fn are_regs(regs: &[u64; 16])
 fn are_words(words: &[u64])
     ensures { (n : ℕ) → slice_index words.now n < 2 ^ 64 }
 {}
-
-/// The law that each byte of spans is below 256.
-pub fn spans_hold_bytes(spans: &[Span])
-    ensures { (at : ℕ) → byte_of spans.now at < 256 }
-{
-    for span in spans {
-        are_bytes(&span.bytes);
-    }
-}
 
 /// The law that sixteen vectors are of 32 bytes, each below 256.
 pub fn are_vecs(vecs: &[Bytes32; 16])
@@ -42,7 +32,3 @@ fn is_vec(bytes: &[u8; 32])
 {
     are_bytes(bytes);
 }
-
-fn are_bytes(bytes: &[u8])
-    ensures { (at : ℕ) → slice_index bytes.now at < 256 }
-{}

@@ -3,7 +3,7 @@ ghost use Rattle.std.specs.Prelude.{◌≡◌, ℕ, ◌+◌, ◌-◌, ◌*◌, �
 ghost use Rattle.std.specs.List.{list_all};
 ghost use Rattle.machine.specs.Access as access;
 ghost use Rattle.machine.specs.Family.{holds_of};
-ghost use Rattle.machine.specs.Machine.{IsStart, offset_from};
+ghost use Rattle.machine.specs.Machine.{IsStart};
 ghost use Rattle.machine.specs.Operands as operands;
 ghost use Rattle.machine.specs.Ready.{finished_row, IsReady};
 ghost use Rattle.machine.specs.Spanned.{IsSpanned};
@@ -14,7 +14,8 @@ ghost use Rattle.instruction_semantics.specs.Words.{bit};
 ghost use Rattle.machine.specs.Runnable.{HasRowOf, IsRunnable, IsWidth};
 ghost use Rattle.insn_table.specs.Closed.{IsClosed};
 ghost use Rattle.insn_table.specs.Table.{HasRegisters};
-ghost use Rattle.machine.specs.Kept.{AreOrdered, IsKept, pure_of};
+ghost use Rattle.memory_spans.specs.Spans.{AreOrdered};
+ghost use Rattle.machine.specs.Kept.{IsKept, pure_of};
 ghost use Rattle.machine.specs.Start.{IsCopy, kept_start};
 ghost use Rattle.machine.specs.Vectors as vectors;
 
@@ -23,14 +24,17 @@ use crate::operands::{
     op_family, operand, register_after, register_number, source, source_place, source_width,
     target, target_width, width_at, writes,
 };
-use crate::ranges::{are_regs, are_vecs, spans_hold_bytes};
-use crate::spans::{byte_at, copy_spans, put_word, word_in, word_of};
+use crate::ranges::{are_regs, are_vecs};
 use crate::vector_access::alignment;
-use crate::vectors::{clear_above, control, load, load_in, low_word, store, written, zeros};
+use crate::vectors::{clear_above, control, low_word, written};
 use align_base::{Flags, Memory};
 use insn_table::{Function, Insn, Op, Operand};
 use lane_ops::{flags, scalar};
 use lane_views::Bytes32;
+use memory_spans::{
+    Span, byte_at, copy_spans, load, load_in, put_word, spans_hold_bytes, store, word_in, word_of,
+    zeros,
+};
 use runs::{RunEnd, StepEnd};
 use std::alloc::Global;
 use std::marker::Model;
@@ -42,13 +46,6 @@ pub struct Region {
     pub base: u64,
     pub len: u64,
     pub write: bool,
-}
-
-/// Bytes from an address on.
-#[derive(Drop)]
-pub struct Span {
-    pub at: u64,
-    pub bytes: Vec<u8>,
 }
 
 /// The state of the machine. Contracts see it as what is kept of one, and `pure_of` says what that

@@ -5,7 +5,8 @@ use Rattle.align_base.specs.declared.output.Output.TheVariants.{Reg, Vec}
 use Rattle.insn_table.specs.declared.insn.Function.{Function}
 use Rattle.machine.specs.Difference.{Agree, is_in_scratch}
 use Rattle.machine.specs.Frame.{SameFrame}
-use Rattle.machine.specs.Machine.{IsInStack, Machine, offset_from}
+use Rattle.machine.specs.Machine.{IsInStack, Machine}
+use Rattle.memory_spans.specs.Memory.{offset_from}
 use Rattle.machine.proofs.Frames.{run_frame}
 use Rattle.runs.specs.Run.{run_of}
 use Rattle.product_simulation.specs.Functions.{function_step}

@@ -1,7 +1,7 @@
 -- The state that the loop is run from.
 use Rattle.std.specs.Prelude.{◌≡◌, ℕ, true, List, [], ◌∷◌, replicate}
 use Rattle.machine.specs.Kept.{Kept}
-use Rattle.machine.specs.declared.state.Span.{Span}
+use Rattle.memory_spans.specs.declared.span.Span.{Span}
 
 -- the span holds these bytes from an address on
 pub record HoldsFrom (span : Span) (at : ℕ) (bytes : List ℕ) : Type 0 where

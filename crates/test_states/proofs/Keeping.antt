@@ -6,9 +6,11 @@ use Rattle.std.proofs.lemmas.Bool.Decides.{nat_tests}
 use Rattle.std.proofs.lemmas.List.Folds.{Any-from_list_any, list_any-from_Any}
 use Rattle.lane_views.specs.declared.Bytes32.{Bytes32}
 use Rattle.machine.specs.declared.state.Region.{Region}
-use Rattle.machine.specs.declared.state.Span.{Span}
-use Rattle.machine.specs.Kept.{AreOrdered, IsKept, IsRegion, byte_of, is_spanned, pure_of}
-use Rattle.machine.specs.Machine.{Machine, offset_from}
+use Rattle.memory_spans.specs.declared.span.Span.{Span}
+use Rattle.memory_spans.specs.Spans.{AreOrdered, byte_of, is_spanned}
+use Rattle.machine.specs.Kept.{IsKept, IsRegion, pure_of}
+use Rattle.machine.specs.Machine.{Machine}
+use Rattle.memory_spans.specs.Memory.{offset_from}
 use Rattle.machine.specs.Start.{kept_start}
 use Rattle.admission.specs.declared.admission.Admission.{Admission}
 use Rattle.admission.specs.Admitted.{HasByte, IsPlaced, regions_of}

@@ -3,8 +3,8 @@ use Rattle.std.proofs.Common.{◌≡◌, ℕ, zero, suc, ◌+◌, ◌-◌, ◌<�
 use Rattle.std.proofs.lemmas.Bool.{false≢true}
 use Rattle.std.proofs.lemmas.Bool.Decides.{nat_tests}
 use Rattle.std.proofs.lemmas.Grind.{common_steps}
-use Rattle.machine.specs.declared.state.Span.{Span}
-use Rattle.machine.specs.Kept.{AreOrdered, byte_of, is_spanned, spans_address}
+use Rattle.memory_spans.specs.declared.span.Span.{Span}
+use Rattle.memory_spans.specs.Spans.{AreOrdered, byte_of, is_spanned, spans_address}
 use Rattle.test_states.specs.declared.range.Range.{Range}
 use Rattle.test_states.specs.Naming.{named_or}
 use Rattle.test_states.specs.Ranges.{AreApart, IsRange, IsSpanOf, is_covered, range_has}

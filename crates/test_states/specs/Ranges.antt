@@ -2,8 +2,8 @@
 use Rattle.std.specs.Prelude.{◌≡◌, ℕ, ◌+◌, ◌-◌, ◌<◌, ◌≤◌, Bool, ◌&&◌, ◌||◌, nat_le, nat_lt, List, [], ◌∷◌, length, slice_index}
 use Rattle.std.specs.List.{list_any}
 use Rattle.machine.specs.declared.state.Region.{Region}
-use Rattle.machine.specs.declared.state.Span.{Span}
-use Rattle.machine.specs.Machine.{offset_from}
+use Rattle.memory_spans.specs.declared.span.Span.{Span}
+use Rattle.memory_spans.specs.Memory.{offset_from}
 use Rattle.test_states.specs.declared.range.Range.{Range}
 use Rattle.test_states.specs.Naming.{named_or}
 

@@ -2,7 +2,7 @@
 ghost use Rattle.std.specs.Prelude.{◌≡◌, ℕ, ◌+◌, ◌-◌, ◌%◌, ◌^◌, ◌<◌, ◌≤◌, ◌||◌, ◌∷◌, IfOk, OnOk, nat_lt};
 ghost use Rattle.std.specs.List.{All, list_any};
 ghost use Rattle.std.specs.List.Sorted.{IsNonDecreasingBy};
-ghost use Rattle.machine.specs.Machine.{offset_from};
+ghost use Rattle.memory_spans.specs.Memory.{offset_from};
 ghost use Rattle.machine.specs.declared.state.Region.{Region};
 ghost use Rattle.test_states.specs.declared.range.Range.{Range};
 ghost use Rattle.test_states.specs.Ranges.{AreApart, IsRange, is_covered};

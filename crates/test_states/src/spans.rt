@@ -1,6 +1,6 @@
 //! The spans of a start state.
 ghost use Rattle.std.specs.Prelude.{◌≡◌, ℕ, ◌+◌, ◌^◌, true, IfOk};
-ghost use Rattle.machine.specs.Kept.{AreOrdered, byte_of, is_spanned};
+ghost use Rattle.memory_spans.specs.Spans.{AreOrdered, byte_of, is_spanned};
 ghost use Rattle.test_states.specs.Naming.{named_or};
 ghost use Rattle.test_states.specs.Ranges.{AreApart, IsRange, IsSpanOf, is_covered, range_has};
 

@@ -1,5 +1,5 @@
 //! Start states of tests.
-ghost use Rattle.std.specs.Prelude.{◌≡◌, ◌+◌, ◌^◌, ◌<◌, ◌≤◌, ℕ, IfOk, slice_index};
+ghost use Rattle.std.specs.Prelude.{◌≡◌, ◌+◌, ◌^◌, ◌<◌, ◌≤◌, ℕ, Err, IfOk, slice_index};
 ghost use Rattle.machine.specs.Kept.{pure_of};
 ghost use Rattle.machine.specs.Machine.{IsStart};
 ghost use Rattle.admission.specs.Admitted.{IsAdmitted, IsAdmittedStart, regions_of};
@@ -79,6 +79,8 @@ fn loaded(alloc: Global, admission: &Admission, test: &Test) -> Result<State, Lo
     requires { IsWellFormed admission.now }
     ensures exact { Loads admission.now test.now result }
     ensures start { IfOk result (λ state. IsStart (pure_of state)) }
+    ensures not_admitted { IsRefused admission.now test.now LoadRefusal.NotAdmitted
+        → result ≡ Err LoadRefusal.NotAdmitted }
 {
     if !admission.admits(&test.regs) {
         return Err(LoadRefusal::NotAdmitted);
@@ -96,7 +98,7 @@ fn loaded(alloc: Global, admission: &Admission, test: &Test) -> Result<State, Lo
 
 /// The start state of a test under an admission, or the first reason for which it has none.
 ///
-/// Where memory is wanted and not found, that is the refusal.
+/// Out of memory is a refusal of its own, once the registers are admitted.
 pub fn load(alloc: Global, admission: &Admission, test: &Test) -> Result<State, LoadRefusal>
     requires { IsWellFormed admission.now }
 
@@ -107,6 +109,10 @@ pub fn load(alloc: Global, admission: &Admission, test: &Test) -> Result<State, 
     // .. and what is so is answered.
     ensures loaded { IsLoadable admission.now test.now → GivesState result }
     ensures refused { (e : LoadRefusal) → IsRefused admission.now test.now e → GivesRefusal e result }
+
+    // Registers that are not admitted are refused before any memory is wanted.
+    ensures not_admitted { IsRefused admission.now test.now LoadRefusal.NotAdmitted
+        → result ≡ Err LoadRefusal.NotAdmitted }
 {
     loaded(alloc, admission, test)
 }

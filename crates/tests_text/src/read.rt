@@ -1,5 +1,6 @@
 //! Reads tests, and files of them.
-ghost use Rattle.std.specs.Prelude.{◌≡◌, ◌≤◌, IfOk, length, option_map};
+ghost use Rattle.std.specs.Prelude.{◌≡◌, ◌≤◌, ◌↔◌, IfOk, length, option_map};
+ghost use Rattle.serde_json.specs.Errors.{IsMemory};
 ghost use Rattle.serde_json.specs.View.{items_view, view};
 ghost use Rattle.tests_text.specs.Reading as reading;
 ghost use Rattle.tests_text.specs.ReadingTests as tests;
@@ -14,7 +15,7 @@ use crate::shape::{Kind, is_object};
 use crate::test::{Test, Tests};
 use crate::vector::vectors_of;
 use admission::Items;
-use serde_json::Value;
+use serde_json::{Error, Value};
 use std::alloc::Global;
 
 // How many bytes a test may name, and how many tests a file may have.
@@ -114,10 +115,18 @@ pub fn read_tests(alloc: Global, bytes: &[u8]) -> Result<Tests, TestRefusal>
 {
     match Value::from_slice(alloc, bytes) {
         Ok(value) => file_of(alloc, &value),
-        Err(failed) => Err(if failed.is_memory() {
-            TestRefusal::Memory
-        } else {
-            TestRefusal::NotJson
-        }),
+        Err(failed) => Err(unread(&failed)),
+    }
+}
+
+// Why a text was not read as JSON.
+fn unread(failed: &Error) -> TestRefusal
+    ensures memory { (result ≡ TestRefusal.Memory) ↔ IsMemory failed.now }
+    ensures not_json { (result ≡ TestRefusal.NotJson) ↔ (IsMemory failed.now → ⊥) }
+{
+    if failed.is_memory() {
+        TestRefusal::Memory
+    } else {
+        TestRefusal::NotJson
     }
 }

@@ -7,14 +7,14 @@ use Rattle.std.proofs.lemmas.Bool.Decides.{Decides-eqb}
 use Rattle.std.proofs.lemmas.Option.{same_Some}
 use Rattle.align_base.specs.declared.op.Op.{Op}
 use Rattle.align_base.specs.declared.op.Op.TheVariants as ops
-use Rattle.insn_table.proofs.Bools.{both_true, either_true}
+use Rattle.mnemonic_table.proofs.Bools.{both_true, either_true}
 use Rattle.insn_table.proofs.TableInsns.{fitted-made}
 use Rattle.insn_table.specs.Classes.{Form, is_memory, is_nothing, number_fits, numbers_fit, takes, takes_kind, two}
 use Rattle.insn_table.specs.Forms.{chosen, completed, counted_once, fits_of, forms, found_form, general_forms, insn_of, insn_with, is_lone, is_quadword_move, is_shift, is_vector, judged_by, register_width, told_width, vector_register_width, widest, width_of}
-use Rattle.insn_table.specs.Rows.{general}
+use Rattle.mnemonic_table.specs.Rows.{general}
 use Rattle.insn_table.specs.VectorForms.{computed, exchanged, extracted, forms_at, is_vector_width, joined, lane_form, move_forms, moved_quadword, shifted, shuffled}
-use Rattle.insn_table.specs.Widths.{is_wide}
-use Rattle.insn_table.specs.declared.shape.Shape.{Shape}
+use Rattle.mnemonic_table.specs.Widths.{is_wide}
+use Rattle.mnemonic_table.specs.declared.shape.Shape.{Shape}
 use Rattle.align_base.specs.declared.vector_op.LaneOp.{LaneOp}
 use Rattle.align_base.specs.declared.vector_op.LaneOp.TheVariants as lanes
 use Rattle.align_base.specs.declared.vector_op.MoveOp.{MoveOp}

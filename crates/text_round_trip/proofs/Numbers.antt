@@ -2,7 +2,7 @@
 use Rattle.std.proofs.Common.{◌≡◌, ◌⊎◌, inl, inr, ⊎_elim, ℕ, ◌-◌, ◌/◌, ◌%◌, ◌^◌, ◌<◌, ◌≤◌, eqb, Bool, true, false, ◌||◌, cond, nat_lt, nat_le, ◌++◌, codes, decimal, refl, sym, subst, arith}
 use Rattle.std.proofs.lemmas.Bool.{eqb-true, or_left}
 use Rattle.std.proofs.lemmas.Bool.Decides.{nat_tests}
-use Rattle.insn_table.proofs.Bools.{either_true}
+use Rattle.mnemonic_table.proofs.Bools.{either_true}
 use Rattle.insn_table.specs.Classes.{greatest_immediate, immediate_depth, is_immediate}
 use Rattle.insn_table.specs.declared.insn.Operand.TheVariants.{Imm}
 use Rattle.att_statements.specs.Operands.{Immediate, IsBetween, IsOperandText}

@@ -5,20 +5,20 @@ use Rattle.std.specs.Str.{bytes_eq}
 use Rattle.std.proofs.lemmas.Bool.Decides.{nat_tests}
 use Rattle.std.proofs.lemmas.Slice.Eq.{bytes_eq-Decides}
 use Rattle.align_base.specs.declared.op.Op.{Op}
-use Rattle.insn_table.proofs.Bools.{both_true}
-use Rattle.insn_table.proofs.Rows.{named-row, passed_at}
+use Rattle.mnemonic_table.proofs.Bools.{both_true}
+use Rattle.mnemonic_table.proofs.Rows.{named-row, passed_at}
 use Rattle.insn_table.proofs.TableInsns.{judged-ok}
 use Rattle.insn_table.specs.Classes.{is_nothing, is_target}
 use Rattle.insn_table.specs.Forms.{chosen, completed, counted_once, found_form, insn_of, is_lone, is_shift}
-use Rattle.insn_table.specs.Rows.{Row, named}
-use Rattle.insn_table.specs.Spellings.{table_rows}
-use Rattle.insn_table.specs.LegacyRows.{add_to_cltq, cmova_to_cmovnc, cmovne_to_cmovz, cmp_to_lea, mov_to_or, packss_to_pop, por_to_sar, set_rows, shl_to_test, xor_rows}
-use Rattle.insn_table.specs.VexRows.{vand_to_vpbroadcast, vpcmp_to_vpmul, vpor_to_vzeroupper}
+use Rattle.mnemonic_table.specs.Rows.{Row, named}
+use Rattle.mnemonic_table.specs.Spellings.{table_rows}
+use Rattle.mnemonic_table.specs.LegacyRows.{add_to_cltq, cmova_to_cmovnc, cmovne_to_cmovz, cmp_to_lea, mov_to_or, packss_to_pop, por_to_sar, set_rows, shl_to_test, xor_rows}
+use Rattle.mnemonic_table.specs.VexRows.{vand_to_vpbroadcast, vpcmp_to_vpmul, vpor_to_vzeroupper}
 use Rattle.insn_table.specs.Table.{IsTableInsn}
 use Rattle.insn_table.specs.declared.insn.Insn.{Insn}
 use Rattle.insn_table.specs.declared.insn.Operand.{Operand}
 use Rattle.insn_table.specs.declared.insn.Operand.TheVariants.{Imm, Nothing, Target}
-use Rattle.insn_table.specs.declared.shape.Shape.{Shape}
+use Rattle.mnemonic_table.specs.declared.shape.Shape.{Shape}
 use Rattle.text_lines.proofs.Trimming.{word-only}
 use Rattle.text_lines.specs.Bytes.{is_blank}
 use Rattle.text_lines.specs.Words.{HasWord, IsTrimmed, is_solid}

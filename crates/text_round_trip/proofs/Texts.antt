@@ -8,11 +8,11 @@ use Rattle.std.proofs.lemmas.Option.{same_Some}
 use Rattle.std.proofs.lemmas.Slice.Eq.{bytes_eq-Decides}
 use Rattle.std.proofs.lemmas.Str.{IsAscii-append, IsUtf8-from_ascii}
 use Rattle.align_base.specs.Firsts.{◌>>=◌, all_of}
-use Rattle.insn_table.proofs.Bools.{both_true}
+use Rattle.mnemonic_table.proofs.Bools.{both_true}
 use Rattle.insn_table.specs.Classes.{is_target}
-use Rattle.insn_table.specs.Spellings.{table_rows}
-use Rattle.insn_table.specs.LegacyRows.{add_to_cltq, cmova_to_cmovnc, cmovne_to_cmovz, cmp_to_lea, mov_to_or, packss_to_pop, por_to_sar, set_rows, shl_to_test, xor_rows}
-use Rattle.insn_table.specs.VexRows.{vand_to_vpbroadcast, vpcmp_to_vpmul, vpor_to_vzeroupper}
+use Rattle.mnemonic_table.specs.Spellings.{table_rows}
+use Rattle.mnemonic_table.specs.LegacyRows.{add_to_cltq, cmova_to_cmovnc, cmovne_to_cmovz, cmp_to_lea, mov_to_or, packss_to_pop, por_to_sar, set_rows, shl_to_test, xor_rows}
+use Rattle.mnemonic_table.specs.VexRows.{vand_to_vpbroadcast, vpcmp_to_vpmul, vpor_to_vzeroupper}
 use Rattle.insn_table.specs.declared.insn.Function.{Function}
 use Rattle.insn_table.specs.declared.insn.Insn.{Insn}
 use Rattle.text_lines.specs.Bytes.{is_blank}

@@ -6,7 +6,7 @@ use Rattle.std.proofs.lemmas.Bool.{and_from}
 use Rattle.std.proofs.lemmas.Bool.Decides.{nat_tests}
 use Rattle.std.proofs.lemmas.Fmt.{decimal_by_steps, decimal_nonempty, length-decimal-le}
 use Rattle.std.proofs.lemmas.List.Folds.{list_all-append}
-use Rattle.insn_table.proofs.Bools.{both_true}
+use Rattle.mnemonic_table.proofs.Bools.{both_true}
 use Rattle.att_statements.proofs.RegisterTexts.{all-names}
 use Rattle.att_statements.specs.Operands.{IsUncut, open_after, open_behind, register_names}
 use Rattle.insn_text.specs.InsnText.{displacement_text, memory_text, number_text, register_text, scaled_text}

@@ -3,7 +3,7 @@ use Rattle.std.proofs.Common.{◌≡◌, ◌⊎◌, inl, inr, ℕ, zero, suc, �
 use Rattle.std.specs.List.{AllByRecursion, AllZip, list_all}
 use Rattle.std.proofs.lemmas.Bool.Decides.{nat_tests}
 use Rattle.align_base.specs.declared.op.Op.{Op}
-use Rattle.insn_table.proofs.Bools.{both_true}
+use Rattle.mnemonic_table.proofs.Bools.{both_true}
 use Rattle.insn_table.specs.Classes.{is_immediate, is_memory, is_within, number_fits, takes_kind}
 use Rattle.insn_table.specs.Forms.{is_vector, register_width, vector_register_width}
 use Rattle.insn_table.specs.Table.{IsScale}

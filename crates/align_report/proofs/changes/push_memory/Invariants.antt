@@ -1,6 +1,6 @@
 use Rattle.std.proofs.Common.{◌≡◌, ◌++◌, string_bytes}
 use Rattle.machine.specs.Kept.{pure_of}
-use Rattle.machine.specs.Memory.{bytes_at}
+use Rattle.memory_spans.specs.Memory.{bytes_at}
 use Rattle.align_report.specs.Values.{bytes_text}
 use Rattle.align_report.proofs.changes.push_memory.Given as goal
 

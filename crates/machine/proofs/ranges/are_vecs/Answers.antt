@@ -3,7 +3,7 @@ use Rattle.std.proofs.lemmas.List.{take_all}
 use Rattle.std.proofs.lemmas.List.Elements.{All-more}
 use Rattle.std.specs.List.{All}
 use Rattle.lane_views.specs.declared.Bytes32.{Bytes32}
-use Rattle.machine.proofs.ByteRanges.{IsVec, vecs_in_range}
+use Rattle.machine.proofs.StartRanges.{IsVec, vecs_in_range}
 use Rattle.machine.proofs.ranges.are_vecs.Goals as goal
 
 pub loop-vec-preserved : goal.loop-vec-preserved

@@ -2,7 +2,7 @@ use Rattle.std.proofs.Common.{◌||◌, List, nat_lt, ◌∙◌, ap, arith, rule
 use Rattle.std.specs.List.{list_any}
 use Rattle.std.proofs.lemmas.List.{take_all}
 use Rattle.std.proofs.lemmas.List.Sorted.{All-permutation, IsNonDecreasingBy-from_sort_by_key}
-use Rattle.machine.specs.Machine.{offset_from}
+use Rattle.memory_spans.specs.Memory.{offset_from}
 use Rattle.machine.specs.declared.state.Region.{Region}
 use Rattle.test_states.specs.declared.range.Range.{Range}
 use Rattle.test_states.specs.Ranges.{IsRange}

@@ -1,6 +1,6 @@
 use Rattle.std.proofs.Common.{ℕ, ◌+◌, ◌<◌, ◌≤◌, ◌^◌, List, length, take, subst, arith}
 use Rattle.std.proofs.lemmas.List.{take_all, take_more}
-use Rattle.machine.specs.declared.state.Span.{Span}
+use Rattle.memory_spans.specs.declared.span.Span.{Span}
 use Rattle.test_states.specs.declared.range.Range.{Range}
 use Rattle.test_states.proofs.Spanning.{AreSpansOf, apart_is_range, byte-named, spanned-covered, spans_more, spans_ordered}
 use Rattle.test_states.proofs.spans.spans_of.Goals as goal

@@ -1,9 +1,11 @@
 use Rattle.std.proofs.Common.{◌∙◌, ap, List, refl, subst}
-use Rattle.machine.specs.declared.state.Span.{Span}
+use Rattle.memory_spans.specs.declared.span.Span.{Span}
 use Rattle.machine.specs.Holding.{kept_of}
 use Rattle.machine.specs.Kept.{Kept}
-use Rattle.machine.specs.Start.{IsCopy, contents}
-use Rattle.machine.proofs.KeptStates.{copy_of, held_by_places, places_by_contents}
+use Rattle.machine.specs.Start.{IsCopy}
+use Rattle.memory_spans.specs.Spans.{contents}
+use Rattle.machine.proofs.KeptStates.{copy_of, held_by_places}
+use Rattle.memory_spans.proofs.Contents.{places_by_contents}
 use Rattle.machine.proofs.state.State.copy.Goals as goal
 
 pub invariant_of-result : goal.invariant_of-result

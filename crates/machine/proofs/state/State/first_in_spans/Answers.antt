@@ -2,7 +2,7 @@ use Rattle.std.proofs.Common.{add-one, length, refl}
 use Rattle.std.proofs.lemmas.Option.{slice_get_read}
 use Rattle.machine.specs.Kept.{pure_of}
 use Rattle.machine.proofs.Differences.{first_of_spans, same_so_far}
-use Rattle.machine.proofs.Ordering.{order_ends}
+use Rattle.memory_spans.proofs.Ordering.{order_ends}
 use Rattle.machine.proofs.state.State.first_in_spans.Goals as goal
 
 pub first_in_span-requires : goal.first_in_span-requires

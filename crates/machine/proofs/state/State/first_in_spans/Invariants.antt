@@ -1,6 +1,7 @@
 use Rattle.std.proofs.Common.{◌≡◌, ◌⊎◌, ℕ, true, drop}
 use Rattle.machine.specs.Difference.{SameByte}
-use Rattle.machine.specs.Kept.{is_spanned, pure_of}
+use Rattle.memory_spans.specs.Spans.{is_spanned}
+use Rattle.machine.specs.Kept.{pure_of}
 use Rattle.machine.proofs.state.State.first_in_spans.Given as goal
 
 -- no byte of the spans differs but of those still to come

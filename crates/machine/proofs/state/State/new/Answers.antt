@@ -1,4 +1,4 @@
-use Rattle.machine.proofs.ByteRanges.{is_start}
+use Rattle.machine.proofs.StartRanges.{is_start}
 use Rattle.machine.proofs.state.State.new.Goals as goal
 
 pub returns-clause-start : goal.returns-clause-start

@@ -1,7 +1,6 @@
-use Rattle.std.proofs.Common.{◌≡◌, ◌∙◌, ◌/◌, List, ℕ, sym, ap, refl}
+use Rattle.std.proofs.Common.{◌∙◌, ◌/◌, List, ℕ, sym, ap, refl}
 use Rattle.machine.specs.Holding.{kept_of}
 use Rattle.machine.specs.Kept.{Kept, pure_of}
-use Rattle.machine.specs.Machine.{Machine}
 use Rattle.machine.specs.Vectors.{with_vector}
 use Rattle.machine.proofs.KeptStates.{held_by_places}
 use Rattle.machine.proofs.VectorWrites.{vector_put}

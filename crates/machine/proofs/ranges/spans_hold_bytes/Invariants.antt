@@ -1,7 +1,0 @@
-use Rattle.std.proofs.Common.{take}
-use Rattle.std.specs.List.{All}
-use Rattle.machine.proofs.ByteRanges.{HoldsBytes}
-use Rattle.machine.proofs.ranges.spans_hold_bytes.Given as goal
-
-abbrev pub invariant-loop-span : goal.invariant-loop-span
-invariant-loop-span l = All HoldsBytes (take l.span-index l.spans)

@@ -1,6 +1,0 @@
-use Rattle.std.proofs.Common.{◌≡◌, drop}
-use Rattle.machine.specs.Kept.{byte_of}
-use Rattle.machine.proofs.spans.byte_at.Given as goal
-
-abbrev pub invariant-loop-span : goal.invariant-loop-span
-invariant-loop-span l = byte_of (drop l.span-index l.spans) l.at ≡ byte_of l.spans l.at

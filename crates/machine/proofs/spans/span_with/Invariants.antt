@@ -1,6 +1,0 @@
-use Rattle.std.proofs.Common.{◌≡◌, drop}
-use Rattle.machine.specs.Kept.{is_spanned}
-use Rattle.machine.proofs.spans.span_with.Given as goal
-
-abbrev pub invariant-loop-i : goal.invariant-loop-i
-invariant-loop-i l = l.n ≡ 1 → is_spanned (drop l.i l.spans) l.at ≡ is_spanned l.spans l.at

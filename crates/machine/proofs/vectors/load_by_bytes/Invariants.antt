@@ -1,8 +1,0 @@
-use Rattle.std.proofs.Common.{◌≡◌, length}
-use Rattle.machine.specs.Kept.{memory_of}
-use Rattle.machine.specs.Vectors.{vector_from}
-use Rattle.machine.proofs.vectors.load_by_bytes.Given as goal
-
--- the bytes so far, and zeros behind them
-abbrev pub invariant-loop-k : goal.invariant-loop-k
-invariant-loop-k l = (l.vector.bytes ≡ vector_from (memory_of l.spans) l.at l.k) × (length l.vector.bytes ≡ 32)

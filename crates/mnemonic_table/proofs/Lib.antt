@@ -1,0 +1,3 @@
+pub mod Bools
+pub mod Rows
+pub mod Shapes

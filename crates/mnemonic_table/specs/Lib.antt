@@ -1,0 +1,5 @@
+pub mod Rows
+pub mod LegacyRows
+pub mod VexRows
+pub mod Spellings
+pub mod Widths
