@@ -1,13 +1,13 @@
 #!/usr/bin/env python3
 """The processor time of the gate from nothing, by crate and by kind: proofs, tests (each proved, too), wrong edits. With
-names it is that of these crates and those below them.
+names it is that of these crates and those below them; with --kept only what no earlier run on this machine kept.
 
 Runs `rt ci` in this checkout (with `--anew`, where the kit has it) and looks, ten times a second, at the processes of the prover that it starts: a
 check in a folder of an edit is an edit's, one of a crate's tests is a test's, each other one is a proof's. What is left
 of the whole (compilers, programs, tests that run, processes too short to be seen) is printed as the rest. Run it with no
 other work on the machine.
 
-usage: python3 bench/gate.py [NAME..]
+usage: python3 bench/gate.py [--kept] [NAME..]
 """
 import os
 import resource
@@ -60,8 +60,9 @@ def kind_of(pid):
 def main():
     log = open(os.path.join(tempfile.gettempdir(), "align-gate.log"), "w+")
     shown = subprocess.run(["rt", "help"], capture_output=True, text=True)
-    anew = ["--anew"] if "--anew" in shown.stdout + shown.stderr else []
-    run = subprocess.Popen(["rt", "ci", *sys.argv[1:], *anew], stdout=log, stderr=subprocess.STDOUT)
+    names = [word for word in sys.argv[1:] if word != "--kept"]
+    anew = ["--anew"] if "--anew" in shown.stdout + shown.stderr and "--kept" not in sys.argv else []
+    run = subprocess.Popen(["rt", "ci", *names, *anew], stdout=log, stderr=subprocess.STDOUT)
     spent, kinds, start = {}, {}, time.monotonic()
     while run.poll() is None:
         for pid, ticks in children([run.pid]).items():
