@@ -1,19 +1,18 @@
 -- A node that is built has its value in the sheet after it, and older nodes stay.
-use Rattle.std.proofs.Common.{◌≡◌, ℕ, zero, suc, ◌+◌, ◌<◌, ◌≤◌, List, [], ◌∷◌, ◌++◌, Bool, true, false, length, get_or, refl, sym, ◌∙◌, ap, subst, arith, inl, inr, if◌then◌else◌, rules, length-append}
+use Rattle.std.proofs.Common.{◌≡◌, ℕ, ◌<◌, List, [], ◌∷◌, ◌++◌, Bool, true, false, length, refl, sym, ◌∙◌, ap, subst, arith, inl, inr, if◌then◌else◌, rules, length-append}
 use Rattle.std.specs.List.{list_any, position_or_len}
-use Rattle.std.proofs.lemmas.Bool.{cases_Bool, cond_both}
+use Rattle.std.proofs.lemmas.Bool.{cases_Bool}
 use Rattle.std.proofs.lemmas.List.{append-nil}
 use Rattle.std.proofs.lemmas.List.Sums.{passes_at_first}
 use Rattle.node_values.specs.declared.node.Node.{Node}
 use Rattle.node_values.specs.declared.node.Node.TheVariants.{Const, Reg, Entry, VecByte, Start, Probe, Add, Sub, Mul, And, Or, Xor, Not, Shl, Shr, Sar, Cat, Cut, Sx, Eq, Ult, Slt, If}
-use Rattle.node_values.specs.declared.node.NodeId.{NodeId}
 use Rattle.node_values.specs.Nodes.{IsNode, node_width}
 use Rattle.node_values.specs.Values.{Environment, node_value}
 use Rattle.node_values.specs.Sheets.{AreWidths, Extends, IsSheet, node_at, value_at, width_at}
-use Rattle.node_values.proofs.SheetLaws.{IsSheet-push, node_at-append, value_at-append, value_at-is, value_at-push, width_at-append, width_at-is, width_at-push}
+use Rattle.node_values.proofs.SheetLaws.{IsSheet-push, value_at-is, value_at-push, width_at-is, width_at-push}
 use Rattle.terms.specs.declared.rules.Reduced.{Reduced}
 use Rattle.terms.specs.declared.rules.Reduced.TheVariants.{Old, New}
-use Rattle.terms.specs.Made.{Made, is_same, made, number_of, placed, with_node}
+use Rattle.terms.specs.Made.{Made, is_same, made, number_of, placed}
 use Rattle.std.specs.Prelude.{slice_index}
 use Rattle.node_forms.proofs.WidthLists.{same_widths}
 use Rattle.terms.specs.Rules.{by_rules, folded, is_folded, reduced, unfolded}

@@ -1,11 +1,10 @@
 -- What a node is by the rules stands for the node.
-use Rattle.std.proofs.Common.{◌≡◌, ℕ, zero, suc, ◌+◌, ◌-◌, ◌*◌, ◌/◌, ◌%◌, ◌^◌, ◌<◌, ◌≤◌, ◌==◌, List, [], ◌∷◌, Option, Some, None, Bool, true, false, ◌&&◌, length, refl, sym, ◌∙◌, ap, subst, arith, inl, inr, if◌then◌else◌}
-use Rattle.std.specs.Prelude.{is_some, nat_le, nat_lt, slice_index, bit_and, bit_or, bit_xor}
+use Rattle.std.proofs.Common.{◌≡◌, ℕ, ◌+◌, ◌-◌, ◌^◌, ◌<◌, ◌≤◌, ◌==◌, List, [], ◌∷◌, Bool, true, false, ◌&&◌, length, refl, sym, ◌∙◌, ap, arith, if◌then◌else◌}
+use Rattle.std.specs.Prelude.{nat_le, slice_index, bit_and, bit_or, bit_xor}
 use Rattle.std.specs.List.{AllByRecursion, list_all}
 use Rattle.std.specs.Int.Bits.{and_self, and_zero_r, or_self, or_zero_r, xor_self, xor_zero_r}
 use Rattle.std.proofs.lemmas.Bool.{cond_both, eqb-true}
 use Rattle.std.proofs.lemmas.Nat.{and_comm, or_comm, xor_comm, pow_pos}
-use Rattle.align_base.specs.declared.status.Side.{Side}
 use Rattle.instruction_semantics.specs.Words as words
 use Rattle.instruction_semantics.proofs.WordLaws.{minus_self}
 use Rattle.node_values.specs.declared.node.Node.{Node}
@@ -21,7 +20,7 @@ use Rattle.node_forms.proofs.ValueLaws.{constant_at}
 use Rattle.node_forms.proofs.FormValues.{equal_by_forms}
 use Rattle.terms.specs.declared.rules.Reduced.{Reduced}
 use Rattle.terms.specs.declared.rules.Reduced.TheVariants.{Old, New}
-use Rattle.terms.specs.Rules.{are_constants, folded, in_order, is_constant, is_folded, is_number, joined, number_at, ordered, part_of, reduced, unfolded}
+use Rattle.terms.specs.Rules.{are_constants, folded, is_constant, is_folded, is_number, joined, number_at, ordered, part_of, reduced, unfolded}
 use Rattle.terms.specs.Sheet.{Stands}
 use Rattle.terms.proofs.CutLaws.{both_true, cut_stands, number_known}
 use Rattle.terms.proofs.WordRules.{and_ones, below_self, below_zero, choice_self, cut_all, equal_comm, join_cuts, minus_zero, plus_comm, plus_zero, times_comm}

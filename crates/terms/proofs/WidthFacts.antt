@@ -7,7 +7,7 @@ use Rattle.node_values.specs.declared.node.Node.TheVariants.{Const}
 use Rattle.node_values.specs.Nodes.{AreWordWidths, IsNode, arguments, node_width}
 use Rattle.node_forms.specs.Linearity.{constant_of}
 use Rattle.terms.specs.Rules.{number_at}
-use Rattle.node_values.specs.Sheets.{AreWidths, IsSheet, node_at, value_at, width_at}
+use Rattle.node_values.specs.Sheets.{node_at, value_at, width_at}
 use Rattle.node_values.specs.Values.{Environment, node_value}
 use Rattle.node_values.proofs.NodeLaws.{SameAt, arguments_lower, node_value_same}
 use Rattle.node_values.proofs.SheetLaws.{IsSheet-push, at_arguments, value_at-below, value_at-is, width_at-append, width_at-is, width_at-push}

@@ -1,12 +1,11 @@
 -- What the operators make of 0, of all ones, of equal words, of words in either order, and of cuts and joins.
-use Rattle.std.proofs.Common.{◌≡◌, ℕ, zero, suc, ◌+◌, ◌-◌, ◌*◌, ◌/◌, ◌%◌, ◌^◌, ◌<◌, ◌≤◌, ◌==◌, Bool, true, false, refl, sym, ◌∙◌, ap, subst, arith, inl, inr, div-one, if◌then◌else◌}
-use Rattle.std.specs.Prelude.{nat_lt, bit_and, bit_or, bit_xor}
-use Rattle.std.specs.Int.Bits.{and_self, and_zero_r, or_self, or_zero_r, xor_self, xor_zero_r}
-use Rattle.std.proofs.lemmas.Bool.{cond_both, le-ltb, eq-eqb}
-use Rattle.std.proofs.lemmas.Nat.{and_comm, and_mask, field_of, mod_low, mod-pow-add, or_comm, pow-add, shr_high, xor_comm, pow_pos}
+use Rattle.std.proofs.Common.{◌≡◌, ℕ, ◌+◌, ◌-◌, ◌*◌, ◌/◌, ◌%◌, ◌^◌, ◌<◌, ◌≤◌, ◌==◌, refl, sym, ◌∙◌, ap, arith, div-one}
+use Rattle.std.specs.Prelude.{bit_and}
+use Rattle.std.proofs.lemmas.Bool.{cond_both, le-ltb}
+use Rattle.std.proofs.lemmas.Nat.{and_mask, field_of, mod_low, mod-pow-add, pow-add, shr_high}
 use Rattle.std.proofs.lemmas.Bool.Decides.{nat_tests}
 use Rattle.std.proofs.Math.Nat.{add-mod_right, div-div-eq-div-mul, mod-eq_of_lt}
-use Rattle.instruction_semantics.specs.Words.{plus, minus, times, cut, concatenation, choice, equal, below, signed_below, bit}
+use Rattle.instruction_semantics.specs.Words.{plus, minus, times, cut, concatenation, choice, equal, below, bit}
 use Rattle.node_forms.proofs.ValueLaws.{low_of_low}
 
 pub plus_zero : (w a : ℕ) → a < 2 ^ w → plus w a 0 ≡ a

@@ -1,8 +1,9 @@
 -- What building a node makes of a sheet.
-use Rattle.std.specs.Prelude.{ℕ, Bool, List, [], ◌∷◌, ◌++◌, if◌then◌else◌}
+use Rattle.std.specs.Prelude.{ℕ, ◌<◌, ◌≤◌, Bool, List, [], ◌∷◌, ◌++◌, length, if◌then◌else◌}
 use Rattle.std.specs.List.{list_any, position_or_len}
 use Rattle.node_values.specs.contracts.node.NodePartialEq.TheImpl.{eq-value}
 use Rattle.node_values.specs.declared.node.Node.{Node}
+use Rattle.node_values.specs.declared.node.Node.TheVariants.{Eq}
 use Rattle.node_values.specs.declared.node.NodeId.{NodeId}
 use Rattle.terms.specs.declared.rules.Reduced.{Reduced}
 use Rattle.terms.specs.declared.rules.Reduced.TheVariants.{Old, New}
@@ -33,3 +34,12 @@ placed ns (New n) = record { nodes = with_node ns n; id = record { 0 = number_of
 -- the sheet after a node is built by the rules, and its number
 unfoldable pub made : List Node → Node → Made
 made ns n = placed ns (reduced ns n)
+
+-- a later sheet has more nodes, and room for all of them
+abbrev pub GrowsInRoom : List Node → List Node → Type 0
+GrowsInRoom ns later = (length ns < length later) × (length later ≤ 65536)
+
+-- an equality: its forms take memory before it is known which node it is
+abbrev pub IsEquality : Node → Type 0
+IsEquality (Eq a b) = Unit {0}
+IsEquality _ = ⊥

@@ -11,11 +11,11 @@
 -- 6. `if` of a constant is its branch, and `if` with two equal branches is the branch.
 -- 7. `eq` of two nodes whose forms differ by a constant is 1 or 0.
 -- 8. Of the arguments of a sum, product, `and`, `or`, `xor` and `eq` the one with the lower number stands first.
-use Rattle.std.specs.Prelude.{ℕ, zero, suc, ◌+◌, ◌-◌, ◌^◌, ◌==◌, Bool, true, false, ◌&&◌, List, [], ◌∷◌, Option, Some, None, is_some, nat_le, slice_index, unwrap_or, if◌then◌else◌}
+use Rattle.std.specs.Prelude.{ℕ, ◌+◌, ◌-◌, ◌^◌, ◌==◌, Bool, false, ◌&&◌, List, [], ◌∷◌, Option, Some, None, is_some, nat_le, slice_index, unwrap_or, if◌then◌else◌}
 use Rattle.std.specs.List.{list_all}
 use Rattle.instruction_semantics.specs.Words.{bit, cut}
 use Rattle.node_values.specs.declared.node.Node.{Node}
-use Rattle.node_values.specs.declared.node.Node.TheVariants.{Const, Reg, Entry, VecByte, Start, Probe, Add, Sub, Mul, And, Or, Xor, Not, Shl, Shr, Sar, Cat, Cut, Sx, Eq, Ult, Slt, If}
+use Rattle.node_values.specs.declared.node.Node.TheVariants.{Const, Start, Add, Sub, Mul, And, Or, Xor, Cat, Cut, Eq, Ult, Slt, If}
 use Rattle.node_values.specs.declared.node.NodeId.{NodeId}
 use Rattle.node_values.specs.Nodes.{arguments, node_width}
 use Rattle.node_values.specs.Values.{operation}

@@ -1,11 +1,12 @@
 //! The rules by which nodes are built.
-ghost use Rattle.std.specs.Prelude.{◌≡◌, ℕ, ◌+◌, ◌-◌, ◌<◌, ◌^◌, ◌≤◌, ◌&&◌, List, length, slice_index, IfOk, IfSome};
+ghost use Rattle.std.specs.Prelude.{◌≡◌, ℕ, ◌+◌, ◌-◌, ◌<◌, ◌^◌, ◌≤◌, ◌&&◌, List, length, slice_index, IfOk, IfSome, OnErr};
 ghost use Rattle.std.specs.List.{AllByRecursion};
 ghost use Rattle.node_values.specs.Nodes.{AreAlike, IsNode, arguments as arguments_of};
 ghost use Rattle.node_values.specs.Sheets.{node_at};
 ghost use Rattle.node_values.specs.declared.node.Node.{Node};
 ghost use Rattle.node_values.specs.declared.node.Node.TheVariants as nodes_of;
 ghost use Rattle.terms.specs.declared.rules.Reduced.TheVariants as reductions;
+ghost use Rattle.terms.specs.Made.{IsEquality};
 ghost use Rattle.terms.specs.Rules as rules;
 ghost use Rattle.terms.specs.Sheet.{IsWidthList};
 
@@ -26,7 +27,8 @@ pub enum Reduced {
 pub fn reduce(alloc: Global, nodes: &[Node], widths: &[u32], node: Node) -> Result<Reduced, Memory>
     requires list { IsWidthList nodes.now widths.now }
     requires node { IsNode (slice_index widths.now) (length nodes.now) node }
-    ensures { IfOk result (λ reduced. reduced ≡ rules.by_rules nodes.now (slice_index widths.now) node) }
+    ensures reduced { IfOk result (λ reduced. reduced ≡ rules.by_rules nodes.now (slice_index widths.now) node) }
+    ensures memory { OnErr result (IsEquality node) }
 {
     if is_folded(nodes, node) {
         return Ok(Reduced::New(fold(nodes, widths, node)));

@@ -1,5 +1,5 @@
 //! Sheets.
-ghost use Rattle.std.specs.Prelude.{◌≡◌, ℕ, [], ◌+◌, ◌*◌, ◌%◌, ◌<◌, ◌^◌, ◌≤◌, IfOk, IsErrOf, OnErr, length, slice_index};
+ghost use Rattle.std.specs.Prelude.{◌≡◌, ◌⊎◌, ℕ, [], ◌+◌, ◌*◌, ◌%◌, ◌<◌, ◌^◌, ◌≤◌, IfOk, IsErrOf, OnErr, length, slice_index};
 ghost use Rattle.node_forms.specs.Listed.{IsListed};
 ghost use Rattle.node_forms.specs.Forms.{form_at};
 ghost use Rattle.node_forms.specs.Sums.{SameWord, weighted_sum};
@@ -9,7 +9,7 @@ ghost use Rattle.node_values.specs.Sheets.{Extends, IsSheet, node_at, value_at, 
 ghost use Rattle.node_values.specs.Values.{Environment, node_value};
 ghost use Rattle.terms.specs.Kept.{IsKept};
 ghost use Rattle.terms.specs.Sheet.{IsWidthList};
-ghost use Rattle.terms.specs.Made.{made, placed};
+ghost use Rattle.terms.specs.Made.{GrowsInRoom, IsEquality, made, placed};
 ghost use Rattle.terms.specs.declared.rules.Reduced.TheVariants as reductions;
 
 use crate::rules::{Reduced, reduce};
@@ -106,6 +106,9 @@ impl Sheet {
         ensures inside { IfOk result (λ id. id.0 < length self.new) }
         ensures extends { Extends self.old self.new }
         ensures full { IsErrOf result SheetFull.Full → 65536 < length (made self.old node).nodes }
+        // the forms of an equality take memory before it is known whether its node is there
+        ensures memory { IsErrOf result SheetFull.Memory
+            → IsEquality node ⊎ GrowsInRoom self.old (made self.old node).nodes }
         ensures err { OnErr result (self.new ≡ self.old) }
         ensures sheet { IsSheet self.new }
         ensures room { length self.new ≤ 65536 }
@@ -203,6 +206,8 @@ fn build_in(
     ensures made { IfOk result (λ id. made nodes.old.keys node ≡ record { nodes = nodes.new.keys; id = id }) }
     ensures kept { IsKept nodes.new.keys widths.new.items }
     ensures full { IsErrOf result SheetFull.Full → 65536 < length (made nodes.old.keys node).nodes }
+    ensures memory { IsErrOf result SheetFull.Memory
+        → IsEquality node ⊎ GrowsInRoom nodes.old.keys (made nodes.old.keys node).nodes }
     ensures err { OnErr result (nodes.new.keys ≡ nodes.old.keys) }
 {
     let reduced = reduce(alloc, nodes.as_slice(), widths.as_slice(), node)?;
@@ -219,6 +224,8 @@ fn place(nodes: &mut IndexSet<Node>, widths: &mut Vec<u32>, node: Node) -> Resul
     ensures placed { IfOk result (λ id. placed nodes.old.keys (reductions.New node) ≡ record { nodes = nodes.new.keys; id = id }) }
     ensures kept { IsKept nodes.new.keys widths.new.items }
     ensures full { IsErrOf result SheetFull.Full → 65536 < length (placed nodes.old.keys (reductions.New node)).nodes }
+    ensures memory { IsErrOf result SheetFull.Memory
+        → GrowsInRoom nodes.old.keys (placed nodes.old.keys (reductions.New node)).nodes }
     ensures err { OnErr result (nodes.new.keys ≡ nodes.old.keys) }
 {
     if let Some(at) = nodes.get_index_of(&node) {

@@ -1,4 +1,4 @@
-use Rattle.std.proofs.Common.{◌≡◌, ℕ, ◌+◌, ◌/◌, ◌%◌, ◌^◌, ◌<◌, ◌≤◌, Some, None, length, sym, ◌∙◌, ap, subst, arith, div-one}
+use Rattle.std.proofs.Common.{◌≡◌, ◌/◌, ◌%◌, ◌^◌, ◌≤◌, Some, None, sym, ◌∙◌, ap, arith, div-one}
 use Rattle.std.specs.Prelude.{slice_index, unwrap_or}
 use Rattle.std.proofs.lemmas.Nat.{shr_le}
 use Rattle.instruction_semantics.proofs.WordLaws.{power_grows}

@@ -1,7 +1,6 @@
-use Rattle.std.proofs.Common.{◌≡◌, ℕ, ◌<◌, List, length, sym, ◌∙◌, ap, subst, arith}
-use Rattle.node_values.specs.declared.node.Node.{Node}
+use Rattle.std.proofs.Common.{sym, ◌∙◌, ap, subst}
 use Rattle.node_values.specs.Sheets.{IsSheet}
-use Rattle.terms.specs.Made.{Made, made}
+use Rattle.terms.specs.Made.{made}
 use Rattle.terms.proofs.MadeLaws.{IsBuilt, made_built}
 use Rattle.terms.proofs.sheet.Sheet.build.Goals as goal
 
