@@ -2,7 +2,7 @@
 """Makes the lines of crates/insn_rows/stdin, one of each general mnemonic and of each form of each one on vectors, and
 what must be printed of them (stdout).
 
-The mnemonics are those of crates/insn_table/specs/LegacyRows.antt and VexRows.antt. What is printed follows the rules of
+The mnemonics are those of crates/mnemonic_table/specs/LegacyRows.antt and VexRows.antt. What is printed follows the rules of
 printed instructions: the first name of a condition, the suffix of the width, `shl` for `sal`, `pand` for `andps`, numbers
 as signed ones, and those that control vectors as they are.
 
@@ -31,7 +31,7 @@ PLACES = [
 
 
 def rows():
-    text = (ROOT / "insn_table/specs/LegacyRows.antt").read_text()
+    text = (ROOT / "mnemonic_table/specs/LegacyRows.antt").read_text()
     for mnemonic, op, w in re.findall(r' row \(codes "(\w+)"\) (\(\w+ \w+\)|\w+) (\d+)', text):
         yield mnemonic, op.strip("()").split(), int(w)
 
@@ -39,7 +39,7 @@ def rows():
 def vector_rows():
     """Each mnemonic on vectors, and the words of its operation."""
     for name in ("LegacyRows", "VexRows"):
-        text = (ROOT / f"insn_table/specs/{name}.antt").read_text()
+        text = (ROOT / f"mnemonic_table/specs/{name}.antt").read_text()
         for mnemonic, op in re.findall(r'(?:vector|vex|upper)_row \(codes "(\w+)"\) (.*?) ∷', text):
             yield mnemonic, re.findall(r"\w+", op)
 
