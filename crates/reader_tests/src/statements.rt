@@ -93,7 +93,8 @@ fn operands_are_read_as_they_are_written(rt: HostRuntime) -> Result<(), Fail> {
     let alloc = rt.alloc();
     let name = Word::new(alloc, b"f")?;
     let text =
-        b"f:\n nop\n movabsq $18446744073709551615,%rax\n addl $4294967295,%eax\n addl $-1,%eax\n movq -8(%rdi,%rcx,4),%r15\n.L1: jmp f\n jmp .L1";
+        b"f:\n nop\n movabsq $18446744073709551615,%rax\n addl $4294967295,%eax\n addl $-1,%eax\n\
+          movq -8(%rdi,%rcx,4),%r15\n.L1: jmp f\n jmp .L1";
     let f = read_function(alloc, text.as_slice(), &name)?;
     let want = [
         Operand::Nothing,
