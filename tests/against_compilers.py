@@ -19,11 +19,11 @@ import subprocess
 import sys
 import tempfile
 
-import insn_rows
+import mnemonic_cases
 import loop_sources
 import run_files
 
-TABLE = {row[0] for row in insn_rows.rows()} | {row[0] for row in insn_rows.vector_rows()}
+TABLE = {row[0] for row in mnemonic_cases.rows()} | {row[0] for row in mnemonic_cases.vector_rows()}
 MEND = "to be mended"
 LATER = "a constant of the pool (later)"
 

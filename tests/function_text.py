@@ -1,13 +1,13 @@
 """Makes texts of functions: each form of each instruction of the table, random functions, and statements that are odd.
 
-The mnemonics and the forms of those on vectors come from insn_rows.py, which reads them from the table's definitions;
+The mnemonics and the forms of those on vectors come from mnemonic_cases.py, which reads them from the table's definitions;
 the forms of general instructions are those of crates/insn_table/specs/Forms.antt.
 """
 import itertools
 import re
 
-import insn_rows
-from insn_rows import BYTE, LETTER, LONG, NAMES, SHORT, WIDE
+import mnemonic_cases
+from mnemonic_cases import BYTE, LETTER, LONG, NAMES, SHORT, WIDE
 
 # the least and the greatest immediate of a form's width
 RANGES = {8: (-128, 255), 16: (-32768, 65535), 32: (-2**31, 2**32 - 1), 64: (-2**31, 2**31 - 1)}
@@ -86,7 +86,7 @@ def operands_of(kind, w, turn):
 def general_statements():
     """A statement of each form of each general instruction but the jumps, with every number at the edges."""
     turn = 0
-    for mnemonic, op, w in insn_rows.rows():
+    for mnemonic, op, w in mnemonic_cases.rows():
         for form in classes(op, w):
             for kinds in itertools.product(*(kinds for kinds, _ in form)):
                 if kinds.count("m") > 1 or "l" in kinds:
@@ -123,10 +123,10 @@ def register_statements():
 def vector_statements():
     """A statement of each form of each instruction on vectors, with registers and memory; controls at the edges."""
     seen = set()
-    for mnemonic, words in list(insn_rows.vector_rows()) + [("movq", ["Moving", "Movq"])]:
+    for mnemonic, words in list(mnemonic_cases.vector_rows()) + [("movq", ["Moving", "Movq"])]:
         for w in (128, 256) if mnemonic[0] == "v" else (128,):
             for turn in range(8):
-                for operands in insn_rows.vector_operands(3 * turn, words, mnemonic[0] == "v", w):
+                for operands in mnemonic_cases.vector_operands(3 * turn, words, mnemonic[0] == "v", w):
                     written = [written for written, _ in operands]
                     firsts = ["$0", "$1", "$127", "$128", "$255"] if written and written[0][0] == "$" else written[:1]
                     for first in firsts or [""]:
@@ -138,7 +138,7 @@ def vector_statements():
 
 def jumps():
     """The mnemonics of jumps."""
-    return [mnemonic for mnemonic, op, _ in insn_rows.rows() if op[0] in ("Jump", "Jmp")]
+    return [mnemonic for mnemonic, op, _ in mnemonic_cases.rows() if op[0] in ("Jump", "Jmp")]
 
 
 def statements():

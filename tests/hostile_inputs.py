@@ -66,7 +66,7 @@ class Inputs:
     def __init__(self):
         read = lambda pattern: [open(name, "rb").read() for name in sorted(glob.glob(f"{ROOT}/examples/*/{pattern}"))]
         self.functions, self.admissions, self.tests = read("*.s"), read("admission"), read("tests.json")
-        self.lines = open(f"{ROOT}/crates/insn_rows/stdin", "rb").read().split(b"\n")[:-1]
+        self.lines = open(f"{ROOT}/crates/mnemonic_cases/stdin", "rb").read().split(b"\n")[:-1]
         self.tokens = sorted({token for text in self.functions + self.admissions + self.tests
                               for token in re.findall(rb"[%$.A-Za-z0-9_]+|[^\s]", text)})
 

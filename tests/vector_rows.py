@@ -1,9 +1,9 @@
 #!/usr/bin/env python3
-"""Makes the vector part of the table of cases that the crate row_vectors compares with the instruction table.
+"""Makes the vector part of the table of cases that the crate processor_cases compares with the instruction table.
 
 It assembles every vector instruction with GNU as, runs it on this processor (which needs AVX2) on lanes at the edges, and
 prints one case a line, numbers alone. The table was made by
-   (python3 tests/row_vectors.py; python3 tests/vector_rows.py) >crates/row_vectors/stdin
+   (python3 tests/processor_cases.py; python3 tests/vector_rows.py) >crates/processor_cases/stdin
 
 A line is one of
    4 NUMBER W IMM A.. B.. R..     a row by lane, by its number in LANE_ROWS

@@ -7,11 +7,11 @@ followed too, so that no instruction reads one that is not set, but for the func
 """
 from dataclasses import dataclass, field
 
-import insn_rows
+import mnemonic_cases
 import rows
 from rows import ALL_FLAGS, CF, Row
 
-WIDE = insn_rows.WIDE
+WIDE = mnemonic_cases.WIDE
 RSP = WIDE.index("rsp")
 RETURNS = ("ret", "retq", "rep ret")
 
@@ -209,7 +209,7 @@ class Builder:
         n = self.draw.choice(self.free() if "w" in role else range(16))
         if "w" in role:
             self.written.add(n)
-        return "%" + insn_rows.NAMES[bits][n]
+        return "%" + mnemonic_cases.NAMES[bits][n]
 
     def vector_text(self, bits, role):
         """A vector register."""
@@ -399,8 +399,8 @@ class Builder:
         if not fit:
             return
         bits, greatest, index = self.draw.choice((32, 64)), self.draw.choice((1, 3, 7)), self.draw.choice(self.free())
-        row = rows.BY_NAME["and" + insn_rows.LETTER[bits], str(bits)]
-        self.emit(Insn(row, [f"${greatest}", "%" + insn_rows.NAMES[bits][index]], "IR", "byte"))
+        row = rows.BY_NAME["and" + mnemonic_cases.LETTER[bits], str(bits)]
+        self.emit(Insn(row, [f"${greatest}", "%" + mnemonic_cases.NAMES[bits][index]], "IR", "byte"))
         self.flags = ALL_FLAGS
         self.written.add(index)
         self.held.add(index)
@@ -495,7 +495,7 @@ class Builder:
         if not held:
             return
         counter, bits, turns = held[0], self.draw.choice((8, 16, 32, 64)), self.draw.randrange(1, 7)
-        name, letter = "%" + insn_rows.NAMES[bits][counter], insn_rows.LETTER[bits]
+        name, letter = "%" + mnemonic_cases.NAMES[bits][counter], mnemonic_cases.LETTER[bits]
         down = self.start_counter(counter, bits, turns)
         way = self.moving_way(turns)
         head = self.label()
@@ -520,7 +520,7 @@ class Builder:
             self.function.counters[counter] = (bits, turns)
             return True
         down = self.chance(0.5)
-        letter, name = insn_rows.LETTER[bits], "%" + insn_rows.NAMES[bits][counter]
+        letter, name = mnemonic_cases.LETTER[bits], "%" + mnemonic_cases.NAMES[bits][counter]
         row = rows.BY_NAME["mov" + letter, str(bits)]
         self.emit(Insn(row, [f"${turns if down else 0}", name], "IR", "byte"))
         return down
@@ -630,7 +630,7 @@ class Builder:
     def output_name(self, n):
         """The name of a register or a vector as an output, mostly as wide as it is."""
         if isinstance(n, int):
-            return "%" + insn_rows.NAMES[self.draw.choice((8, 16, 32, 64, 64, 64, 64, 64))][n]
+            return "%" + mnemonic_cases.NAMES[self.draw.choice((8, 16, 32, 64, 64, 64, 64, 64))][n]
         return f"%{self.draw.choice(('xmm', 'ymm', 'ymm', 'ymm'))}{n[1:]}"
 
     def finish(self, exact_stack):

@@ -98,7 +98,7 @@ def byte_write_clears(insn):
     """A byte that is widened by zeros in place of one that is copied."""
     if insn.row.op != "Mov" or insn.row.width != 8 or insn.kinds != "RR":
         return None
-    wide = rows.insn_rows.LONG[rows.insn_rows.BYTE.index(insn.operands[1][1:])]
+    wide = rows.mnemonic_cases.LONG[rows.mnemonic_cases.BYTE.index(insn.operands[1][1:])]
     return [f"movzbl {insn.operands[0]},%{wide}"]
 
 
@@ -163,8 +163,8 @@ def low_address(insn):
     """An address is cut to 32 bits."""
     if insn.row.op != "Lea" or insn.row.width != 64 or insn.operands[1] == "%rsp":
         return None
-    n = rows.insn_rows.WIDE.index(insn.operands[1][1:])
-    return [f"leal {insn.operands[0]},%{rows.insn_rows.LONG[n]}"]
+    n = rows.mnemonic_cases.WIDE.index(insn.operands[1][1:])
+    return [f"leal {insn.operands[0]},%{rows.mnemonic_cases.LONG[n]}"]
 
 
 def low_mask(insn):

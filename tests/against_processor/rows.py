@@ -1,13 +1,13 @@
 """The rows of the instruction table with the operands that they take, what they do with flags, and kinds of immediates.
 
-The mnemonics are read from the table's own definitions (through tests/insn_rows.py), and the flags that a condition
-reads come from tests/row_vectors.py. What stands here is how a test draws operands of them: their roles, the bytes that
+The mnemonics are read from the table's own definitions (through tests/mnemonic_cases.py), and the flags that a condition
+reads come from tests/processor_cases.py. What stands here is how a test draws operands of them: their roles, the bytes that
 an operand in memory has, and its alignment.
 """
 from dataclasses import dataclass
 
-import insn_rows
-import row_vectors
+import mnemonic_cases
+import processor_cases
 
 CF, PF, ZF, SF, OF = range(5)
 ALL_FLAGS = frozenset(range(5))
@@ -44,7 +44,7 @@ class Row:
         """The name under which executions are counted: the operation, with its condition or its lanes."""
         if self.vector:
             stem = self.mnemonic[1:] if self.vector != "sse" else self.mnemonic
-            return insn_rows.NAMED.get(stem, stem)
+            return mnemonic_cases.NAMED.get(stem, stem)
         return " ".join((self.op,) + self.detail).lower()
 
     def width_name(self):
@@ -174,9 +174,9 @@ def vector_forms(op, detail, vex, w):
     """The forms of an operation on vectors of w bits."""
     if op == "Vzeroupper":
         return [()] if w == 256 else []
-    if op in insn_rows.SHIFTS:
+    if op in mnemonic_cases.SHIFTS:
         return shift_forms(op, detail, vex, w)
-    if op in insn_rows.COPIES:
+    if op in mnemonic_cases.COPIES:
         return copy_forms(op, vex, w)
     if op in ("Movd", "Movq"):
         return exchange_forms(op, w)
@@ -194,14 +194,14 @@ def vector_forms(op, detail, vex, w):
 
 def general_rows():
     """The rows without vectors; where a suffix may be left out, one for each width."""
-    for mnemonic, (op, *detail), width in insn_rows.rows():
+    for mnemonic, (op, *detail), width in mnemonic_cases.rows():
         for w in (width,) if width else (16, 32, 64):
             yield Row(mnemonic, op, tuple(detail), w, "", tuple(general_forms(op, detail, w)))
 
 
 def vector_rows():
     """The rows of vectors, at each width that they have."""
-    named = list(insn_rows.vector_rows()) + [("movq", ["Moving", "Movq"])]
+    named = list(mnemonic_cases.vector_rows()) + [("movq", ["Moving", "Movq"])]
     for mnemonic, words in named:
         op, *detail = (word for word in words if word not in ("Lanewise", "Moving"))
         vex = mnemonic.startswith("v")
@@ -228,7 +228,7 @@ def condition(row):
 
 def reads(row):
     """The flags that a row reads."""
-    return frozenset(row_vectors.READS[condition(row)]) if row.op in ("Cmov", "Set", "Jump") else frozenset()
+    return frozenset(processor_cases.READS[condition(row)]) if row.op in ("Cmov", "Set", "Jump") else frozenset()
 
 
 def flags_after(row, count, flags):

@@ -3,7 +3,7 @@ import json
 import struct
 from dataclasses import dataclass, field
 
-import insn_rows
+import mnemonic_cases
 from functions import RSP, WIDE
 
 M64 = (1 << 64) - 1
@@ -219,7 +219,7 @@ def output_line(name, result):
     """The line of a live output."""
     if name[1:4] in ("xmm", "ymm"):
         return f"{name} {result.vecs[int(name[4:])][:16 if name[1] == 'x' else 32].hex()}\n"
-    for bits, names in insn_rows.NAMES.items():
+    for bits, names in mnemonic_cases.NAMES.items():
         if name[1:] in names:
             return f"{name} {result.regs[names.index(name[1:])] & ((1 << bits) - 1):#x}\n"
     raise ValueError(name)

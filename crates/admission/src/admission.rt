@@ -1,7 +1,8 @@
 //! Admissions, line by line.
 use crate::expr::Expr;
 use crate::items::Items;
-use align_base::{Output, Word};
+use align_base::Word;
+use insn_ops::Output;
 
 /// How two values are compared.
 #[derive(Clone, Copy, Debug, PartialEq, Eq)]

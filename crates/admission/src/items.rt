@@ -1,7 +1,7 @@
 //! Lists that contracts see as lists.
 ghost use Rattle.std.specs.Prelude.{◌≡◌, ◌==◌, [], ◌∷◌, ◌++◌, length, OnOk, OnErr};
 
-use align_base::Memory;
+use outcomes::Memory;
 use std::alloc::Global;
 use std::marker::Model;
 

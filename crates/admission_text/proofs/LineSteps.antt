@@ -1,6 +1,6 @@
 -- Single steps of the code's loop over lines: the draft so far, and what is left.
 use Rattle.std.proofs.Common.{◌≡◌, ℕ, List, ◌∷◌, Option, Some, None, Result, Ok, Err, sym, ap, ◌∙◌}
-use Rattle.align_base.specs.Firsts.{◌>>=◌}
+use Rattle.outcomes.specs.Firsts.{◌>>=◌}
 use Rattle.admission_text.specs.declared.entry.Draft.{Draft}
 use Rattle.admission_text.specs.declared.refusal.AdmitRefusal.{AdmitRefusal}
 use Rattle.admission_text.specs.declared.refusal.AdmitRefusal.TheVariants.{BadLine, TooMany, NoLive, Memory}

@@ -1,6 +1,6 @@
 -- Single steps of the code's loops: what is read so far, and what is left.
 use Rattle.std.proofs.Common.{◌≡◌, ℕ, suc, ◌+◌, ◌-◌, ◌<◌, ◌≤◌, Bool, false, List, [], ◌∷◌, ◌++◌, length, Option, Some, None, refl, sym, ap, ◌∙◌, subst, append-nil, append_assoc, length-append, arith}
-use Rattle.align_base.specs.declared.output.Output.{Output}
+use Rattle.insn_ops.specs.declared.output.Output.{Output}
 use Rattle.admission.specs.declared.expr.Term.{Term}
 use Rattle.admission_text.specs.Reading.{◌>>=◌, cut_sign, expr_of, first_part, output_of, outputs_of, parts_left, term_of, terms_by, terms_of}
 use Rattle.admission_text.proofs.Pieces.{before_those, left_size}

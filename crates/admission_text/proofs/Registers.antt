@@ -6,8 +6,8 @@ use Rattle.std.specs.Str.{bytes_eq}
 use Rattle.std.proofs.lemmas.Bool.{and_parts, eqb-true, not-true}
 use Rattle.std.proofs.lemmas.Option.{same_Some}
 use Rattle.std.proofs.lemmas.Slice.Eq.{bytes_eq-Decides}
-use Rattle.align_base.specs.declared.output.Output.{Output}
-use Rattle.align_base.specs.declared.output.Output.TheVariants.{Reg, Vec}
+use Rattle.insn_ops.specs.declared.output.Output.{Output}
+use Rattle.insn_ops.specs.declared.output.Output.TheVariants.{Reg, Vec}
 use Rattle.admission_text.specs.Names.{general_names, IsGeneral, IsOutputText, IsVectorPrefix, names_64, names_32, names_16, names_8, numerals, place_from}
 use Rattle.admission_text.specs.Reading.{◌>>=◌, after_byte, general_number, general_output, numeral_number, output_named, output_of, outputs_of, register_of, vector_output}
 use Rattle.admission_text.proofs.Numbers.{after_byte-known}

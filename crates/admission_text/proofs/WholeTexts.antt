@@ -1,8 +1,8 @@
 -- What is read of a whole text is right, and only that is.
 use Rattle.std.proofs.Common.{◌≡◌, ℕ, ◌+◌, ◌≤◌, inl, inr, Bool, true, false, cond, List, [], ◌∷◌, ◌++◌, Option, Some, None, Result, Ok, Err, IfOk, refl, sym, ap, ◌∙◌, subst, append-nil, append_assoc, arith}
 use Rattle.std.proofs.lemmas.Bool.{both_ways}
-use Rattle.align_base.specs.Firsts.{◌>>=◌, HasFault, IsFirst}
-use Rattle.align_base.proofs.FirstFaults.{AreAll, ComesFirst, IsOutcome, fault-cases, fault-here, fault-none, first-once, outcome-then}
+use Rattle.outcomes.specs.Firsts.{◌>>=◌, HasFault, IsFirst}
+use Rattle.outcomes.proofs.FirstFaults.{AreAll, ComesFirst, IsOutcome, fault-cases, fault-here, fault-none, first-once, outcome-then}
 use Rattle.admission.specs.declared.admission.Admission.{Admission}
 use Rattle.admission.specs.WellFormed.{IsWellFormed}
 use Rattle.admission_text.specs.declared.entry.Draft.{Draft}

@@ -1,8 +1,8 @@
 -- How an admission writes registers and numbers.
 use Rattle.std.specs.Prelude.{◌≡◌, ◌≢◌, ◌⊎◌, ℕ, ◌+◌, ◌-◌, ◌*◌, ◌^◌, ◌<◌, Bool, ◌||◌, ◌&&◌, ◌==◌, nat_le, List, [], ◌∷◌, ◌++◌, Option, Some, None, slice_get, codes, bytes_eq, decimal, if◌then◌else◌, true}
 use Rattle.std.specs.List.{list_all}
-use Rattle.align_base.specs.declared.output.Output.{Output}
-use Rattle.align_base.specs.declared.output.Output.TheVariants.{Reg, Vec}
+use Rattle.insn_ops.specs.declared.output.Output.{Output}
+use Rattle.insn_ops.specs.declared.output.Output.TheVariants.{Reg, Vec}
 
 -- the general registers of 64 bits, by number
 abbrev pub names_64 : List (List ℕ)

@@ -1,6 +1,6 @@
 -- What the code reads of a whole text: line by line, up to the first fault.
 use Rattle.std.specs.Prelude.{ℕ, ◌+◌, ◌-◌, ◌^◌, min, Bool, true, false, ◌||◌, nat_le, if◌then◌else◌, List, [], ◌∷◌, length, Option, Some, None, Result, Ok, Err}
-use Rattle.align_base.specs.Firsts.{◌>>=◌}
+use Rattle.outcomes.specs.Firsts.{◌>>=◌}
 use Rattle.admission.specs.declared.admission.Admission.{Admission}
 use Rattle.admission_text.specs.declared.entry.Draft.{Draft}
 use Rattle.admission_text.specs.declared.entry.Entry.{Entry}

@@ -1,6 +1,6 @@
 -- Why a text is no admission: its first fault.
 use Rattle.std.specs.Prelude.{◌≡◌, ◌⊎◌, ℕ, ◌-◌, ◌^◌, ◌<◌, ◌≤◌, min, true, false, List, [], codes, Result, Ok, Err}
-use Rattle.align_base.specs.Firsts.{HasFault, IsFirst}
+use Rattle.outcomes.specs.Firsts.{HasFault, IsFirst}
 use Rattle.admission.specs.declared.admission.Admission.{Admission}
 use Rattle.admission_text.specs.declared.entry.Entry.{Entry}
 use Rattle.admission_text.specs.declared.refusal.AdmitRefusal.{AdmitRefusal}

@@ -3,7 +3,8 @@ ghost use Rattle.std.specs.Prelude.{◌≡◌, ◌≤◌, length, IfOk, Some, fa
 ghost use Rattle.admission_text.specs.ReadingLines as lines;
 
 use admission::{Admission, Expr, Items, Need, RegionLine};
-use align_base::{Memory, Output};
+use insn_ops::Output;
+use outcomes::Memory;
 use std::alloc::Global;
 
 /// The word that begins a line.

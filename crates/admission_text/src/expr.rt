@@ -6,7 +6,7 @@ use crate::cuts::{cut_at, cut_sign};
 use crate::number::number_of;
 use crate::register::register_of;
 use admission::{Expr, Items, Term};
-use align_base::Memory;
+use outcomes::Memory;
 use std::alloc::Global;
 
 // How many terms an expression may have.

@@ -13,7 +13,9 @@ use crate::expr::expr_of;
 use crate::number::number_of;
 use crate::register::output_of;
 use admission::{Items, Need, RegionLine, Rel};
-use align_base::{Memory, Output, Word};
+use align_base::Word;
+use insn_ops::Output;
+use outcomes::Memory;
 use std::alloc::Global;
 
 // The relation that is written so.

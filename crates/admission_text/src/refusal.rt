@@ -1,7 +1,7 @@
 //! Why a text is no admission.
 ghost use Rattle.std.specs.Prelude.{◌≡◌};
 
-use align_base::Memory;
+use outcomes::Memory;
 use thiserror::Error;
 
 /// The first fault of a text. Lines are counted from 1; those above 2^32 - 1 are given as that.

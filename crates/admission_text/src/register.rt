@@ -4,7 +4,7 @@ ghost use Rattle.admission_text.specs.Names as names;
 ghost use Rattle.admission_text.specs.Reading as reading;
 
 use crate::cuts::after_byte;
-use align_base::Output;
+use insn_ops::Output;
 
 fn number_64(name: &[u8]) -> Option<u8>
     ensures { result ≡ names.place_from 0 names.names_64 name.now }

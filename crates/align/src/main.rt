@@ -2,7 +2,8 @@
 //! with its code.
 #![tactic(auto)]
 
-use align_base::{FolderShelf, Memory, OpenGate, OutSink, Status, Word};
+use align_base::{FolderShelf, OpenGate, OutSink, Status, Word};
+use outcomes::Memory;
 use align_cli::align_main;
 use std::alloc::Global;
 use std::process::ExitCode;

@@ -1,7 +1,6 @@
 pub mod Causes
 pub mod Codes
 pub mod Files
-pub mod Firsts
 pub mod Reading
 pub mod Shelf
 pub mod Sink

@@ -6,7 +6,8 @@ ghost use Rattle.align_base.specs.declared.shelf.Call.{Call};
 ghost use Rattle.align_base.specs.declared.shelf.PutFault.TheVariants as put;
 ghost use Rattle.align_base.specs.declared.shelf.TakeFault.TheVariants as take;
 
-use crate::word::{Memory, Word};
+use crate::word::Word;
+use outcomes::Memory;
 use std::alloc::{AllocError, AllocFailed, Global};
 use thiserror::Error;
 

@@ -1,13 +1,6 @@
-//! The status that the program ends with, and the two sides that are compared.
+//! The status that the program ends with.
 ghost use Rattle.std.specs.Prelude.{◌≡◌};
 ghost use Rattle.align_base.specs.Codes.{status_code};
-
-/// One of the two functions that are compared.
-#[derive(Clone, Copy, Debug, PartialEq, Eq)]
-pub enum Side {
-    Left,
-    Right,
-}
 
 /// How a call of the program ended.
 #[derive(Clone, Copy, Debug, PartialEq, Eq)]

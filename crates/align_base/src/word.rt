@@ -1,26 +1,9 @@
-//! Words: names and arguments, as bytes; and the error of a call that found no memory.
+//! Words: names and arguments, as bytes.
 ghost use Rattle.std.specs.Prelude.{◌≡◌, List, ℕ, IfOk};
 
-use std::alloc::{AllocError, AllocFailed, Global};
+use outcomes::Memory;
+use std::alloc::Global;
 use std::marker::Model;
-use thiserror::Error;
-
-/// Out of memory.
-#[derive(Clone, Copy, Debug, PartialEq, Eq, Error)]
-#[error("out of memory")]
-pub struct Memory;
-
-impl From<AllocError> for Memory {
-    fn from(_error: AllocError) -> Memory {
-        Memory
-    }
-}
-
-impl<T: Drop> From<AllocFailed<T>> for Memory {
-    fn from(_failed: AllocFailed<T>) -> Memory {
-        Memory
-    }
-}
 
 /// A name of a file or a function, or an argument of the command line. Any bytes.
 ///

@@ -4,8 +4,8 @@ use Rattle.std.proofs.Common.{◌≡◌, ◌⊎◌, inl, inr, ⊎_elim, ℕ, zer
 use Rattle.std.specs.List.{AllByRecursion}
 use Rattle.std.proofs.lemmas.Bool.{cases_eq}
 use Rattle.std.proofs.lemmas.Option.{slice_get_within, slice_get-get_or}
-use Rattle.align_base.specs.declared.op.Op.{Op}
-use Rattle.align_base.specs.declared.op.Op.TheVariants.{Mov, Add, Sub, Ret}
+use Rattle.insn_ops.specs.declared.op.Op.{Op}
+use Rattle.insn_ops.specs.declared.op.Op.TheVariants.{Mov, Add, Sub, Ret}
 use Rattle.insn_table.specs.Closed.{IsClosed, IsLeaving}
 use Rattle.insn_table.specs.Plain.{IsMoveOp, IsPlain, IsPlainMove, IsReturn}
 use Rattle.insn_table.specs.declared.insn.Insn.{Insn}

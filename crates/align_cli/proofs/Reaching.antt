@@ -5,8 +5,8 @@ use Rattle.std.proofs.lemmas.List.{length-append}
 use Rattle.align_base.specs.Causes.{Rose, count_after}
 use Rattle.align_base.specs.Shelf.{CallFailed, Holding, Holds, HoldsMore, NoneFailed, ShelfAccount}
 use Rattle.align_base.specs.declared.shelf.Call.TheVariants.{Take}
-use Rattle.align_base.specs.declared.status.Side.{Side}
-use Rattle.align_base.specs.declared.status.Side.TheVariants.{Left, Right}
+use Rattle.insn_ops.specs.declared.side.Side.{Side}
+use Rattle.insn_ops.specs.declared.side.Side.TheVariants.{Left, Right}
 use Rattle.align_base.specs.declared.status.Status.{Status}
 use Rattle.align_base.specs.declared.status.Status.TheVariants as status
 use Rattle.insn_table.specs.Closed.{IsClosed}

@@ -1,8 +1,8 @@
 -- What each command tells, by the status that it ends with.
 use Rattle.std.specs.Prelude.{◌≡◌, ◌⊎◌, ⊤, ℕ, ◌≤◌, List, [], ◌∷◌, length, Option, Some}
 use Rattle.align_base.specs.Shelf.{Holding, Holds}
-use Rattle.align_base.specs.declared.status.Side.{Side}
-use Rattle.align_base.specs.declared.status.Side.TheVariants.{Left, Right}
+use Rattle.insn_ops.specs.declared.side.Side.{Side}
+use Rattle.insn_ops.specs.declared.side.Side.TheVariants.{Left, Right}
 use Rattle.align_base.specs.declared.status.Status.{Status}
 use Rattle.align_base.specs.declared.status.Status.TheVariants as status
 use Rattle.insn_table.specs.declared.insn.Insn.{Insn}

@@ -2,8 +2,8 @@
 use Rattle.std.specs.Prelude.{◌≡◌, ◌⊎◌, ℕ, ◌+◌, ◌<◌, ◌≤◌, List, [], ◌∷◌, ◌++◌, length, codes, Option, Some}
 use Rattle.std.specs.List.{AllByRecursion}
 use Rattle.align_base.specs.Shelf.{Holding, Holds, HoldsMore}
-use Rattle.align_base.specs.declared.status.Side.{Side}
-use Rattle.align_base.specs.declared.status.Side.TheVariants.{Left, Right}
+use Rattle.insn_ops.specs.declared.side.Side.{Side}
+use Rattle.insn_ops.specs.declared.side.Side.TheVariants.{Left, Right}
 use Rattle.insn_table.specs.declared.insn.Function.{Function}
 use Rattle.admission.specs.declared.admission.Admission.{Admission}
 use Rattle.admission_text.specs.Entries.{IsAdmissionText}

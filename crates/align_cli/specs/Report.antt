@@ -1,8 +1,8 @@
 -- The texts that the program gives: reports, refusals and the usage.
 use Rattle.std.specs.Prelude.{ℕ, ◌+◌, ◌==◌, List, [], ◌∷◌, ◌++◌, false, codes, decimal, unwrap_or, slice_get, if◌then◌else◌}
 use Rattle.std.specs.Fmt.{digits}
-use Rattle.align_base.specs.declared.status.Side.{Side}
-use Rattle.align_base.specs.declared.status.Side.TheVariants.{Left, Right}
+use Rattle.insn_ops.specs.declared.side.Side.{Side}
+use Rattle.insn_ops.specs.declared.side.Side.TheVariants.{Left, Right}
 use Rattle.admission_text.specs.declared.refusal.AdmitRefusal.{AdmitRefusal}
 use Rattle.admission_text.specs.declared.refusal.AdmitRefusal.TheVariants as admits
 use Rattle.tests_text.specs.declared.refusal.TestRefusal.{TestRefusal}

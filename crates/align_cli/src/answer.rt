@@ -2,7 +2,8 @@
 ghost use Rattle.std.specs.Prelude.{◌≡◌, string_bytes};
 ghost use Rattle.align_cli.specs.declared.answer.Interruption.TheVariants as interruption;
 
-use align_base::{Memory, Status};
+use align_base::Status;
+use outcomes::Memory;
 use std::alloc::AllocError;
 use thiserror::Error;
 

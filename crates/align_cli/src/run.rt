@@ -8,7 +8,8 @@ ghost use Rattle.align_cli.specs.View.{run_command};
 
 use crate::answer::{Answer, Interruption};
 use crate::files::{Taken, admission_in, function_in, tests_in};
-use align_base::{Shelf, Side, Status};
+use align_base::{Shelf, Status};
+use insn_ops::Side;
 use align_report::run_text;
 use command_line::RunArguments;
 use std::alloc::Global;

@@ -3,8 +3,8 @@ use Rattle.std.proofs.Common.{◌≡◌, ◌⊎◌, inl, inr, ℕ, zero, suc, �
 use Rattle.std.specs.List.{list_any}
 use Rattle.std.proofs.lemmas.Bool.{cases_Bool, false≢true}
 use Rattle.std.proofs.lemmas.Bool.Decides.{nat_tests}
-use Rattle.align_base.specs.declared.output.Output.{Output}
-use Rattle.align_base.specs.declared.word.Memory.{Memory}
+use Rattle.insn_ops.specs.declared.output.Output.{Output}
+use Rattle.outcomes.specs.declared.memory.Memory.{Memory}
 use Rattle.insn_table.specs.declared.insn.Function.{Function}
 use Rattle.runs.specs.Run.{run_of}
 use Rattle.runs.specs.declared.ends.RunEnd.{RunEnd}

@@ -1,7 +1,7 @@
 -- The lines of the live outputs.
 use Rattle.std.specs.Prelude.{ℕ, ◌/◌, ◌%◌, ◌^◌, ◌==◌, List, [], ◌∷◌, ◌++◌, codes, decimal, get_or, slice_index, take, if◌then◌else◌}
-use Rattle.align_base.specs.declared.output.Output.{Output}
-use Rattle.align_base.specs.declared.output.Output.TheVariants.{Reg, Vec}
+use Rattle.insn_ops.specs.declared.output.Output.{Output}
+use Rattle.insn_ops.specs.declared.output.Output.TheVariants.{Reg, Vec}
 use Rattle.machine.specs.Machine.{Machine}
 use Rattle.admission_text.specs.Names.{general_names}
 use Rattle.align_report.specs.Values.{bytes_text, value_text}

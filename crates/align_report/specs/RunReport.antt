@@ -1,6 +1,6 @@
 -- The report of a run of a function under each of some tests.
 use Rattle.std.specs.Prelude.{◌≡◌, ℕ, ◌+◌, List, [], ◌∷◌, ◌++◌, codes, decimal}
-use Rattle.align_base.specs.declared.output.Output.{Output}
+use Rattle.insn_ops.specs.declared.output.Output.{Output}
 use Rattle.insn_table.specs.declared.insn.Function.{Function}
 use Rattle.runs.specs.Run.{Run, run_of}
 use Rattle.runs.specs.declared.ends.RunEnd.{RunEnd}

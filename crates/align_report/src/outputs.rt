@@ -8,7 +8,7 @@ ghost use Rattle.admission_text.specs.Names.{general_names, names_16, names_32, 
 ghost use Rattle.align_report.specs.Outputs.{output_line, output_lines, output_name, output_value};
 
 use crate::values::{push_bytes, push_value};
-use align_base::Output;
+use insn_ops::Output;
 use machine::State;
 use std::alloc::AllocError;
 

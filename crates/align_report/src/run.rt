@@ -11,7 +11,7 @@ ghost use Rattle.align_report.specs.Telling.{AppendsTest};
 use crate::changes::push_changes;
 use crate::outputs::push_outputs;
 use admission::Admission;
-use align_base::Memory;
+use outcomes::Memory;
 use insn_table::Function;
 use machine::{RunEnd, State, step_frame_law};
 use std::alloc::{AllocError, Global};

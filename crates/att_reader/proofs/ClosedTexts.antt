@@ -5,8 +5,8 @@ use Rattle.std.proofs.lemmas.Bool.{both_ways, ltb-true, ltb-false}
 use Rattle.std.proofs.lemmas.Option.{same_Some, slice_get_within}
 use Rattle.std.proofs.lemmas.List.Sums.{length-filter}
 use Rattle.std.proofs.lemmas.Slice.Zip.{AllZip-long}
-use Rattle.align_base.specs.Firsts.{HasFault}
-use Rattle.align_base.proofs.FirstFaults.{fault-here, fault-later}
+use Rattle.outcomes.specs.Firsts.{HasFault}
+use Rattle.outcomes.proofs.FirstFaults.{fault-here, fault-later}
 use Rattle.insn_table.specs.declared.insn.Insn.{Insn}
 use Rattle.insn_table.specs.Table.{IsTableInsn}
 use Rattle.insn_table.specs.Closed.{IsInside, IsLeaving, IsClosed}
@@ -14,10 +14,10 @@ use Rattle.text_lines.specs.declared.refusal.ReadKind.{ReadKind}
 use Rattle.text_lines.specs.declared.refusal.ReadKind.TheVariants.{TooManyInsns}
 use Rattle.text_lines.specs.Lines.{Item, Label, Statement}
 use Rattle.text_lines.specs.Kinds.{line_number}
-use Rattle.function_body.specs.Body.{is_label, is_directive, is_code, IsTarget}
-use Rattle.function_body.specs.Faults.{Fault, fault, IsFault}
-use Rattle.function_body.specs.Functions.{Spells, AreInsns, IsFunction}
-use Rattle.function_body.proofs.Counts.{count-cons, count-append, count-push, any-counted}
+use Rattle.att_bodies.specs.Body.{is_label, is_directive, is_code, IsTarget}
+use Rattle.att_bodies.specs.Faults.{Fault, fault, IsFault}
+use Rattle.att_bodies.specs.Functions.{Spells, AreInsns, IsFunction}
+use Rattle.att_bodies.proofs.Counts.{count-cons, count-append, count-push, any-counted}
 use Rattle.att_statements.specs.Statements.{IsInsnText, IsBadStatement}
 use Rattle.insn_table.specs.declared.insn.Function.{Function}
 use Rattle.text_lines.specs.declared.refusal.ReadRefusal.{ReadRefusal}

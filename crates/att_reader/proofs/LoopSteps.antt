@@ -4,7 +4,7 @@ use Rattle.std.specs.List.{list_any, count_by}
 use Rattle.std.proofs.Math.Seq.{take-suc}
 use Rattle.std.proofs.Math.ListN.{drop_of_length-le}
 use Rattle.std.proofs.lemmas.List.{length-map, length-append, take-map, drop-map, map-append}
-use Rattle.align_base.specs.Firsts.{◌>>=◌, all_of}
+use Rattle.outcomes.specs.Firsts.{◌>>=◌, all_of}
 use Rattle.insn_table.specs.declared.insn.Insn.{Insn}
 use Rattle.text_lines.specs.declared.refusal.ReadKind.{ReadKind}
 use Rattle.text_lines.specs.declared.refusal.ReadKind.TheVariants.{Memory, NotUtf8, LineLong, NoFunction, TwiceLabel, DataInBody, UnknownInstruction, PoolRefused, BadOperand, BadNumber, UnknownLabel, TooManyInsns, FallsOff}
@@ -16,13 +16,13 @@ use Rattle.text_lines.specs.Statements.{Reads}
 use Rattle.text_lines.specs.Views.{seen}
 use Rattle.text_lines.specs.Cutting.{items_of_text}
 use Rattle.std.specs.Str.Lines.{lines}
-use Rattle.function_body.specs.Body.{is_label, is_directive, is_code, IsTarget}
-use Rattle.function_body.specs.Faults.{Fault, fault, is_data}
-use Rattle.function_body.specs.Functions.{last_line}
-use Rattle.function_body.specs.Reading.{target_of, extent_of, insns_of, item_of, at_line, counted, leaves, insns_in}
-use Rattle.function_body.proofs.Counts.{count-push}
-use Rattle.function_body.proofs.Targets.{finds-targets}
-use Rattle.function_body.proofs.Outcomes.{item-rank}
+use Rattle.att_bodies.specs.Body.{is_label, is_directive, is_code, IsTarget}
+use Rattle.att_bodies.specs.Faults.{Fault, fault, is_data}
+use Rattle.att_bodies.specs.Functions.{last_line}
+use Rattle.att_bodies.specs.Reading.{target_of, extent_of, insns_of, item_of, at_line, counted, leaves, insns_in}
+use Rattle.att_bodies.proofs.Counts.{count-push}
+use Rattle.att_bodies.proofs.Targets.{finds-targets}
+use Rattle.att_bodies.proofs.Outcomes.{item-rank}
 use Rattle.att_statements.specs.Statements.{IsInsnText, IsBadStatement}
 use Rattle.att_statements.proofs.StatementTexts.{statements-read}
 use Rattle.att_statements.specs.ReadingStatements.{statement_of}

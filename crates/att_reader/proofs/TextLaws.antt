@@ -14,9 +14,9 @@ use Rattle.text_lines.specs.Kinds.{refusal}
 use Rattle.text_lines.specs.Cutting.{items_of_text}
 use Rattle.text_lines.proofs.TextItems.{items-known, items-only, items-ordered}
 use Rattle.text_lines.proofs.TextFaults.{utf8-once, utf8-differs, long-once, short-differs}
-use Rattle.function_body.specs.Faults.{Fault}
-use Rattle.function_body.specs.Functions as body
-use Rattle.function_body.proofs.BodyLaws as laws
+use Rattle.att_bodies.specs.Faults.{Fault}
+use Rattle.att_bodies.specs.Functions as body
+use Rattle.att_bodies.proofs.BodyLaws as laws
 use Rattle.att_statements.specs.Statements.{IsInsnText, IsBadStatement}
 use Rattle.att_statements.specs.ReadingStatements.{statement_of}
 use Rattle.att_statements.proofs.StatementTexts.{statements-read}

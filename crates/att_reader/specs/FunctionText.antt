@@ -1,5 +1,5 @@
 -- Function text: the function that a text spells under a name, or why the text is refused. Lines are in text_lines,
--- bodies and their faults in function_body, single statements in att_statements.
+-- bodies and their faults in att_bodies, single statements in att_statements.
 use Rattle.std.specs.Prelude.{◌≡◌, ℕ, false, List, [], length}
 use Rattle.std.specs.List.{list_any}
 use Rattle.std.specs.Str.{IsUtf8}
@@ -10,8 +10,8 @@ use Rattle.text_lines.specs.declared.refusal.ReadRefusal.{ReadRefusal}
 use Rattle.text_lines.specs.Lines.{Item}
 use Rattle.text_lines.specs.Texts.{AreItems, IsNotUtf8, is_long, IsLongLine}
 use Rattle.text_lines.specs.Kinds.{refusal}
-use Rattle.function_body.specs.Faults.{Fault}
-use Rattle.function_body.specs.Functions as body
+use Rattle.att_bodies.specs.Faults.{Fault}
+use Rattle.att_bodies.specs.Functions as body
 use Rattle.att_statements.specs.Statements.{IsInsnText, IsBadStatement}
 
 -- the text is UTF-8, and no line has more than 4,096 bytes

@@ -1,15 +1,15 @@
 -- What is read of a text, as functions on lists.
 use Rattle.std.specs.Prelude.{◌≡◌, ℕ, ◌+◌, ◌<◌, List, [], ◌∷◌, ◌++◌, Option, Some, None, Result, Ok, Err, length, take}
 use Rattle.std.specs.Str.Lines.{lines}
-use Rattle.align_base.specs.Firsts.{◌>>=◌, all_of}
+use Rattle.outcomes.specs.Firsts.{◌>>=◌, all_of}
 use Rattle.insn_table.specs.declared.insn.Insn.{Insn}
 use Rattle.insn_table.specs.declared.insn.Function.{Function}
 use Rattle.text_lines.specs.declared.refusal.ReadRefusal.{ReadRefusal}
 use Rattle.text_lines.specs.Lines.{Item}
 use Rattle.text_lines.specs.Kinds.{line_number, refusal}
 use Rattle.text_lines.specs.Cutting.{items_of_text}
-use Rattle.function_body.specs.Faults.{Fault}
-use Rattle.function_body.specs.Reading.{at_line, counted, target_of, item_of, insns_of, insns_in}
+use Rattle.att_bodies.specs.Faults.{Fault}
+use Rattle.att_bodies.specs.Reading.{at_line, counted, target_of, item_of, insns_of, insns_in}
 use Rattle.att_statements.specs.ReadingStatements.{statement_of}
 
 -- an answer with its fault as it is told

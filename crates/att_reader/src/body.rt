@@ -3,14 +3,14 @@ ghost use Rattle.std.specs.Prelude.{◌≡◌, map, take, OnOk, IfErr, vec_len};
 ghost use Rattle.std.specs.List.{count_by};
 ghost use Rattle.text_lines.specs.Kinds.{refusal};
 ghost use Rattle.text_lines.specs.Views.{seen};
-ghost use Rattle.function_body.specs.Body.{is_code};
-ghost use Rattle.function_body.specs.Labelled.{labelled};
-ghost use Rattle.function_body.specs.Reading.{target_of};
+ghost use Rattle.att_bodies.specs.Body.{is_code};
+ghost use Rattle.att_bodies.specs.Labelled.{labelled};
+ghost use Rattle.att_bodies.specs.Reading.{target_of};
 ghost use Rattle.att_reader.specs.Answers.{UnlessMemory, Gives};
 ghost use Rattle.att_reader.specs.Reading.{told, listed, single, insn_on, item_in, body_in, Grows};
 
 use att_statements::statement;
-use function_body::{BodyLabels, is_data, is_directive};
+use att_bodies::{BodyLabels, is_data, is_directive};
 use insn_table::{Insn, Insns};
 use std::alloc::Global;
 use text_lines::{Item, ReadKind, ReadRefusal, saturated};

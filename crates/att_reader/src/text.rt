@@ -9,7 +9,7 @@ ghost use Rattle.att_reader.specs.Reading.{told, insns_of_text};
 
 use crate::body::{read_body, refused};
 use align_base::Word;
-use function_body::{extent, last_line, leaves};
+use att_bodies::{extent, last_line, leaves};
 use insn_table::{Bytes, Function, Insns};
 use std::alloc::Global;
 use text_lines::{ReadKind, ReadRefusal, items_in, long_line, wrong_line};

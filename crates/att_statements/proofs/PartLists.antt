@@ -5,7 +5,7 @@ use Rattle.std.specs.List.{list_any}
 use Rattle.std.specs.Option.{option_map}
 use Rattle.std.proofs.lemmas.Bool.{or_cases, ltb-true, lt-ltb, ltb-false, le-ltb, leb-true, leb-false, lt-leb}
 use Rattle.std.proofs.lemmas.Option.{same_Some}
-use Rattle.align_base.specs.declared.op.Op.{Op}
+use Rattle.insn_ops.specs.declared.op.Op.{Op}
 use Rattle.insn_table.specs.declared.insn.Operand.{Operand}
 use Rattle.insn_table.specs.declared.insn.Operand.TheVariants.{Target}
 use Rattle.text_lines.specs.Statements.{FindsTargets}

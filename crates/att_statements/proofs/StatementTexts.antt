@@ -6,14 +6,14 @@ use Rattle.std.specs.Str.{bytes_eq}
 use Rattle.std.proofs.lemmas.Bool.{and_parts, or_parts, both_ways}
 use Rattle.std.proofs.lemmas.Option.{same_Some}
 use Rattle.std.proofs.lemmas.Slice.Eq.{bytes_eq-Decides}
-use Rattle.align_base.specs.declared.op.Op.{Op}
+use Rattle.insn_ops.specs.declared.op.Op.{Op}
 use Rattle.insn_table.specs.declared.insn.Operand.{Operand}
 use Rattle.insn_table.specs.declared.insn.Insn.{Insn}
-use Rattle.mnemonic_table.specs.declared.shape.Shape.{Shape}
+use Rattle.insn_spellings.specs.declared.shape.Shape.{Shape}
 use Rattle.insn_table.specs.declared.fitting.Misfit.{Misfit}
 use Rattle.insn_table.specs.declared.fitting.Misfit.TheVariants as misfits
-use Rattle.mnemonic_table.specs.Rows.{named}
-use Rattle.mnemonic_table.specs.Spellings.{table_rows}
+use Rattle.insn_spellings.specs.Rows.{named}
+use Rattle.insn_spellings.specs.Spellings.{table_rows}
 use Rattle.insn_table.specs.Classes.{Form, numbers_fit}
 use Rattle.insn_table.specs.Forms.{fits_of, found_form, judged_by, insn_of}
 use Rattle.text_lines.specs.Bytes.{is_blank}

@@ -2,7 +2,7 @@
 ghost use Rattle.std.specs.Prelude.{◌≡◌, ◌||◌, false, [], ◌∷◌, is_some};
 ghost use Rattle.std.specs.Option.{option_map};
 ghost use Rattle.att_statements.specs.Statements.{word_of, greatest_written};
-ghost use Rattle.align_base.specs.declared.op.Op.{Op};
+ghost use Rattle.insn_ops.specs.declared.op.Op.{Op};
 ghost use Rattle.att_statements.specs.ReadingStatements.{is_beyond, no_part, immediate_part, part_of, part_in, gathered};
 ghost use Rattle.att_statements.specs.ReadingOperands.{after_byte, digits_of, number_of, label_of, dollar_by, bare_by, written_of};
 

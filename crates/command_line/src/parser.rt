@@ -10,7 +10,8 @@ ghost use Rattle.command_line.specs.declared.command.Form.TheVariants as form;
 
 use crate::command::{Command, FunctionArguments, RunArguments};
 use crate::line::{Line, Valued};
-use align_base::{Memory, Word};
+use align_base::Word;
+use outcomes::Memory;
 use clap::builder::ValueParser;
 use clap::error::ErrorKind;
 use clap::{Arg, ArgMatches, Error};

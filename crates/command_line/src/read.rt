@@ -11,7 +11,8 @@ use crate::command::Command;
 use crate::line::{Line, Valued, line_of};
 use crate::number::number_within;
 use crate::parser::{decide_of, parser_words, run_of, show_of};
-use align_base::{Memory, Word};
+use align_base::Word;
+use outcomes::Memory;
 use std::alloc::{AllocError, Global};
 
 /// Whether an option is `--steps` with a number of steps.

@@ -6,7 +6,7 @@ ghost use Rattle.flow_graph.specs.Marks.{IsInOrderOf};
 
 use crate::control::{Flow, flow_of};
 use crate::graphs::Graph;
-use align_base::Memory;
+use outcomes::Memory;
 use insn_table::{Function, Insn};
 use std::alloc::Global;
 

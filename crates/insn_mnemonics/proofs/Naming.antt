@@ -2,26 +2,26 @@
 use Rattle.std.proofs.Common.{◌≡◌, ◌⊎◌, inl, inr, ℕ, ◌==◌, Bool, true, false, ◌&&◌, ◌||◌, not, if◌then◌else◌, List, [], ◌∷◌, Some, Ok, refl, sym, ◌∙◌, ap, subst, ⊎_elim}
 use Rattle.std.specs.List.{find, list_any}
 use Rattle.std.proofs.lemmas.Bool.Decides.{Decides-eqb}
-use Rattle.align_base.specs.declared.op.Cond.{Cond}
-use Rattle.align_base.specs.declared.op.Cond.TheVariants.{E, Ne, B, Ae, Be, A, L, Ge, Le, G, S, Ns, O, No, P, Np}
-use Rattle.align_base.specs.declared.op.Op.{Op}
-use Rattle.align_base.specs.declared.op.Op.TheVariants as ops
-use Rattle.align_base.specs.declared.vector_op.VectorOp.{VectorOp}
-use Rattle.align_base.specs.declared.vector_op.VectorOp.TheVariants.{Moving}
-use Rattle.align_base.specs.declared.vector_op.MoveOp.TheVariants.{Movq}
+use Rattle.insn_ops.specs.declared.op.Cond.{Cond}
+use Rattle.insn_ops.specs.declared.op.Cond.TheVariants.{E, Ne, B, Ae, Be, A, L, Ge, Le, G, S, Ns, O, No, P, Np}
+use Rattle.insn_ops.specs.declared.op.Op.{Op}
+use Rattle.insn_ops.specs.declared.op.Op.TheVariants as ops
+use Rattle.insn_ops.specs.declared.vector_op.VectorOp.{VectorOp}
+use Rattle.insn_ops.specs.declared.vector_op.VectorOp.TheVariants.{Moving}
+use Rattle.insn_ops.specs.declared.vector_op.MoveOp.TheVariants.{Movq}
 use Rattle.insn_table.specs.declared.insn.Insn.{Insn}
 use Rattle.insn_table.specs.declared.insn.Operand.{Operand}
 use Rattle.insn_table.specs.declared.classes.Class.TheVariants.{Readable, Register}
-use Rattle.mnemonic_table.specs.declared.shape.Shape.{Shape}
+use Rattle.insn_spellings.specs.declared.shape.Shape.{Shape}
 use Rattle.insn_table.specs.Classes.{Form, numbers_fit, takes, two}
 use Rattle.insn_table.specs.Forms.{chosen, fits_of, forms, insn_of, insn_with, is_quadword_move, is_vector, told_width, width_of}
-use Rattle.mnemonic_table.specs.Rows.{general, named}
-use Rattle.mnemonic_table.specs.Spellings.{table_rows}
-use Rattle.mnemonic_table.specs.LegacyRows.{add_to_cltq, cmova_to_cmovnc, cmovne_to_cmovz, cmp_to_lea, mov_to_or, packss_to_pop, por_to_sar, set_rows, shl_to_test, xor_rows}
-use Rattle.mnemonic_table.specs.VexRows.{vand_to_vpbroadcast, vpcmp_to_vpmul, vpor_to_vzeroupper}
+use Rattle.insn_spellings.specs.Rows.{general, named}
+use Rattle.insn_spellings.specs.Spellings.{table_rows}
+use Rattle.insn_spellings.specs.LegacyRows.{add_to_cltq, cmova_to_cmovnc, cmovne_to_cmovz, cmp_to_lea, mov_to_or, packss_to_pop, por_to_sar, set_rows, shl_to_test, xor_rows}
+use Rattle.insn_spellings.specs.VexRows.{vand_to_vpbroadcast, vpcmp_to_vpmul, vpor_to_vzeroupper}
 use Rattle.insn_table.specs.Table.{IsTableInsn}
-use Rattle.mnemonic_table.specs.Widths.{has_shape, has_suffix, has_width, has_vectors, is_long, is_shape, is_wide, vector_width, widens_to}
-use Rattle.mnemonic_table.proofs.Bools.{both_true, either_true}
+use Rattle.insn_spellings.specs.Widths.{has_shape, has_suffix, has_width, has_vectors, is_long, is_shape, is_wide, vector_width, widens_to}
+use Rattle.insn_spellings.proofs.Bools.{both_true, either_true}
 use Rattle.insn_table.proofs.TableInsns.{IsMade, fitted-made}
 use Rattle.insn_mnemonics.specs.Mnemonics.{mnemonic}
 use Rattle.insn_mnemonics.proofs.VectorNaming.{names-vector, quadword_named}

@@ -1,19 +1,19 @@
 -- The mnemonic that is printed of an operation on vectors names it.
 use Rattle.std.proofs.Common.{◌≡◌, Bool, true, false, Some, refl}
-use Rattle.align_base.specs.declared.op.Op.TheVariants.{Mov, Vector}
-use Rattle.align_base.specs.declared.vector_op.LaneWidth.{LaneWidth}
-use Rattle.align_base.specs.declared.vector_op.LaneWidth.TheVariants.{Byte, Word, Doubleword, Quadword}
-use Rattle.align_base.specs.declared.vector_op.LaneOp.{LaneOp}
-use Rattle.align_base.specs.declared.vector_op.LaneOp.TheVariants as lanes
-use Rattle.align_base.specs.declared.vector_op.MoveOp.{MoveOp}
-use Rattle.align_base.specs.declared.vector_op.MoveOp.TheVariants as moves
-use Rattle.align_base.specs.declared.vector_op.VectorOp.{VectorOp}
-use Rattle.align_base.specs.declared.vector_op.VectorOp.TheVariants.{Lanewise, Moving, Pmaddwd, Psadbw, Pshufb, Pmovmskb, Vzeroupper}
-use Rattle.mnemonic_table.specs.Rows.{general, named}
-use Rattle.mnemonic_table.specs.Spellings.{table_rows}
-use Rattle.mnemonic_table.specs.LegacyRows.{add_to_cltq, cmova_to_cmovnc, cmovne_to_cmovz, cmp_to_lea, mov_to_or, packss_to_pop, por_to_sar, set_rows, shl_to_test, xor_rows}
-use Rattle.mnemonic_table.specs.VexRows.{vand_to_vpbroadcast, vpcmp_to_vpmul, vpor_to_vzeroupper}
-use Rattle.mnemonic_table.specs.Widths.{has_lanes, has_move, has_vectors, vector_width}
+use Rattle.insn_ops.specs.declared.op.Op.TheVariants.{Mov, Vector}
+use Rattle.insn_ops.specs.declared.vector_op.LaneWidth.{LaneWidth}
+use Rattle.insn_ops.specs.declared.vector_op.LaneWidth.TheVariants.{Byte, Word, Doubleword, Quadword}
+use Rattle.insn_ops.specs.declared.vector_op.LaneOp.{LaneOp}
+use Rattle.insn_ops.specs.declared.vector_op.LaneOp.TheVariants as lanes
+use Rattle.insn_ops.specs.declared.vector_op.MoveOp.{MoveOp}
+use Rattle.insn_ops.specs.declared.vector_op.MoveOp.TheVariants as moves
+use Rattle.insn_ops.specs.declared.vector_op.VectorOp.{VectorOp}
+use Rattle.insn_ops.specs.declared.vector_op.VectorOp.TheVariants.{Lanewise, Moving, Pmaddwd, Psadbw, Pshufb, Pmovmskb, Vzeroupper}
+use Rattle.insn_spellings.specs.Rows.{general, named}
+use Rattle.insn_spellings.specs.Spellings.{table_rows}
+use Rattle.insn_spellings.specs.LegacyRows.{add_to_cltq, cmova_to_cmovnc, cmovne_to_cmovz, cmp_to_lea, mov_to_or, packss_to_pop, por_to_sar, set_rows, shl_to_test, xor_rows}
+use Rattle.insn_spellings.specs.VexRows.{vand_to_vpbroadcast, vpcmp_to_vpmul, vpor_to_vzeroupper}
+use Rattle.insn_spellings.specs.Widths.{has_lanes, has_move, has_vectors, vector_width}
 use Rattle.insn_mnemonics.specs.Mnemonics.{mnemonic}
 
 -- the printed mnemonic names the row

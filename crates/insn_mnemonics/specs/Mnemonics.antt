@@ -1,10 +1,10 @@
 -- The mnemonic that is printed of an operation: of those that spell it, the one with its suffix and the first name of its
 -- condition.
 use Rattle.std.specs.Prelude.{ℕ, ◌==◌, Bool, List, [], ◌++◌, codes, if◌then◌else◌}
-use Rattle.align_base.specs.declared.op.Cond.{Cond}
-use Rattle.align_base.specs.declared.op.Cond.TheVariants.{E, Ne, B, Ae, Be, A, L, Ge, Le, G, S, Ns, O, No, P, Np}
-use Rattle.align_base.specs.declared.op.Op.{Op}
-use Rattle.align_base.specs.declared.op.Op.TheVariants.{Mov, Movabs, Add, Sub, Cmp, Test, And, Or, Xor, Inc, Dec, Neg, Not, Shl, Shr, Sar, Imul, Lea, Movzx, Movsx, Cltq, Cmov, Set, Jump, Jmp, Push, Pop, Ret, Nop, Endbr64, Vector}
+use Rattle.insn_ops.specs.declared.op.Cond.{Cond}
+use Rattle.insn_ops.specs.declared.op.Cond.TheVariants.{E, Ne, B, Ae, Be, A, L, Ge, Le, G, S, Ns, O, No, P, Np}
+use Rattle.insn_ops.specs.declared.op.Op.{Op}
+use Rattle.insn_ops.specs.declared.op.Op.TheVariants.{Mov, Movabs, Add, Sub, Cmp, Test, And, Or, Xor, Inc, Dec, Neg, Not, Shl, Shr, Sar, Imul, Lea, Movzx, Movsx, Cltq, Cmov, Set, Jump, Jmp, Push, Pop, Ret, Nop, Endbr64, Vector}
 use Rattle.insn_mnemonics.specs.VectorMnemonics.{vector_middle, vector_stem}
 
 -- the letter of a width

@@ -1,13 +1,13 @@
 -- The parts of the mnemonics of operations on vectors, without the letter of VEX.
 use Rattle.std.specs.Prelude.{ℕ, List, [], codes}
-use Rattle.align_base.specs.declared.vector_op.LaneWidth.{LaneWidth}
-use Rattle.align_base.specs.declared.vector_op.LaneWidth.TheVariants.{Byte, Word, Doubleword, Quadword}
-use Rattle.align_base.specs.declared.vector_op.LaneOp.{LaneOp}
-use Rattle.align_base.specs.declared.vector_op.LaneOp.TheVariants as lanes
-use Rattle.align_base.specs.declared.vector_op.MoveOp.{MoveOp}
-use Rattle.align_base.specs.declared.vector_op.MoveOp.TheVariants as moves
-use Rattle.align_base.specs.declared.vector_op.VectorOp.{VectorOp}
-use Rattle.align_base.specs.declared.vector_op.VectorOp.TheVariants.{Lanewise, Moving, Pmaddwd, Psadbw, Pshufb, Pmovmskb, Vzeroupper}
+use Rattle.insn_ops.specs.declared.vector_op.LaneWidth.{LaneWidth}
+use Rattle.insn_ops.specs.declared.vector_op.LaneWidth.TheVariants.{Byte, Word, Doubleword, Quadword}
+use Rattle.insn_ops.specs.declared.vector_op.LaneOp.{LaneOp}
+use Rattle.insn_ops.specs.declared.vector_op.LaneOp.TheVariants as lanes
+use Rattle.insn_ops.specs.declared.vector_op.MoveOp.{MoveOp}
+use Rattle.insn_ops.specs.declared.vector_op.MoveOp.TheVariants as moves
+use Rattle.insn_ops.specs.declared.vector_op.VectorOp.{VectorOp}
+use Rattle.insn_ops.specs.declared.vector_op.VectorOp.TheVariants.{Lanewise, Moving, Pmaddwd, Psadbw, Pshufb, Pmovmskb, Vzeroupper}
 
 -- the letter of a lane's width
 abbrev pub lane_letter : LaneWidth → List ℕ

@@ -3,7 +3,7 @@ ghost use Rattle.std.specs.Prelude.{◌≡◌};
 ghost use Rattle.insn_mnemonics.specs.Mnemonics.{condition_name, ending, middle, stem, suffix};
 
 use crate::vectors::{vector_middle, vector_stem};
-use align_base::{Cond, Op};
+use insn_ops::{Cond, Op};
 
 /// What the mnemonic begins with.
 pub fn stem(op: Op) -> &'static str

@@ -1,15 +1,15 @@
 //! The mnemonic that is printed of an operation.
 ghost use Rattle.std.specs.Prelude.{◌≡◌, ◌++◌, Some, Ok, OnOk, string_bytes};
 ghost use Rattle.insn_table.specs.declared.insn.Insn.{Insn};
-ghost use Rattle.mnemonic_table.specs.declared.shape.Shape.{Shape};
+ghost use Rattle.insn_spellings.specs.declared.shape.Shape.{Shape};
 ghost use Rattle.insn_table.specs.Forms.{fits_of};
-ghost use Rattle.mnemonic_table.specs.Rows.{named};
-ghost use Rattle.mnemonic_table.specs.Spellings.{table_rows};
+ghost use Rattle.insn_spellings.specs.Rows.{named};
+ghost use Rattle.insn_spellings.specs.Spellings.{table_rows};
 ghost use Rattle.insn_table.specs.Table.{IsTableInsn};
 ghost use Rattle.insn_mnemonics.specs.Mnemonics.{mnemonic};
 
 use crate::general::{ending, middle, stem};
-use align_base::Op;
+use insn_ops::Op;
 use std::alloc::AllocError;
 
 /// The law that the mnemonic that is printed of an instruction of the table names a shape of which

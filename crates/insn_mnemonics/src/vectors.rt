@@ -2,7 +2,7 @@
 ghost use Rattle.std.specs.Prelude.{◌≡◌};
 ghost use Rattle.insn_mnemonics.specs.VectorMnemonics.{lane_letter, lane_middle, lane_stem, move_middle, move_stem, packed_letters, pair_letters, vector_middle, vector_stem, widened_letters};
 
-use align_base::{LaneOp, LaneWidth, MoveOp, VectorOp};
+use insn_ops::{LaneOp, LaneWidth, MoveOp, VectorOp};
 
 /// What a mnemonic begins with.
 pub fn vector_stem(op: VectorOp) -> &'static str

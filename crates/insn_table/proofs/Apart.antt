@@ -4,12 +4,12 @@ use Rattle.std.specs.List.{count_by}
 use Rattle.std.specs.Cmp.Lexicographic.{pointwise}
 use Rattle.std.proofs.lemmas.List.Sums.{count_by-le-length}
 use Rattle.std.proofs.lemmas.Option.{same_Some}
-use Rattle.align_base.specs.declared.op.Op.{Op}
-use Rattle.align_base.specs.declared.op.Op.TheVariants.{Cmov, Imul, Vector}
-use Rattle.align_base.specs.declared.vector_op.VectorOp.{VectorOp}
-use Rattle.align_base.specs.declared.vector_op.VectorOp.TheVariants.{Moving}
-use Rattle.align_base.specs.declared.vector_op.MoveOp.{MoveOp}
-use Rattle.align_base.specs.declared.vector_op.MoveOp.TheVariants as moves
+use Rattle.insn_ops.specs.declared.op.Op.{Op}
+use Rattle.insn_ops.specs.declared.op.Op.TheVariants.{Cmov, Imul, Vector}
+use Rattle.insn_ops.specs.declared.vector_op.VectorOp.{VectorOp}
+use Rattle.insn_ops.specs.declared.vector_op.VectorOp.TheVariants.{Moving}
+use Rattle.insn_ops.specs.declared.vector_op.MoveOp.{MoveOp}
+use Rattle.insn_ops.specs.declared.vector_op.MoveOp.TheVariants as moves
 use Rattle.insn_table.specs.declared.insn.Operand.{Operand}
 use Rattle.insn_table.specs.declared.insn.Operand.TheVariants.{Imm, Nothing, Vec}
 use Rattle.insn_table.specs.declared.classes.Class.{Class}
@@ -17,8 +17,8 @@ use Rattle.insn_table.specs.declared.classes.Class.TheVariants.{Register, Writab
 use Rattle.insn_table.specs.Classes.{Form, two, three, takes_kind, takes}
 use Rattle.insn_table.specs.VectorForms.{copied, exchanged, extracted, moved_quadword, joined, shuffled, move_forms, forms_at, is_vector_width}
 use Rattle.insn_table.specs.Forms.{forms, general_forms}
-use Rattle.mnemonic_table.specs.Widths.{is_wide}
-use Rattle.mnemonic_table.proofs.Bools.{both_true}
+use Rattle.insn_spellings.specs.Widths.{is_wide}
+use Rattle.insn_spellings.proofs.Bools.{both_true}
 
 one_of_two : (a b : Bool) → (a ≡ true → b ≡ true → ⊥) → 0 + cond a 1 0 + cond b 1 0 ≤ 1
 one_of_two true true f = absurd (f refl refl)

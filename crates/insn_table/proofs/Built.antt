@@ -2,20 +2,20 @@
 use Rattle.std.proofs.Common.{◌≡◌, ℕ, zero, suc, ◌-◌, ◌<◌, ◌==◌, Bool, true, false, ◌&&◌, ◌||◌, if◌then◌else◌, List, [], ◌∷◌, length, Option, Some, None, Ok, slice_get, is_some, ◌≤◌, IfSome, refl, subst, inl, inr, ⊎_elim, arith}
 use Rattle.std.specs.List.{list_all, AllByRecursion}
 use Rattle.std.proofs.lemmas.Bool.Decides.{Decides-eqb, Decides-ltb, nat_tests}
-use Rattle.align_base.specs.declared.op.Op.{Op}
-use Rattle.align_base.specs.declared.op.Op.TheVariants.{Jmp, Ret}
+use Rattle.insn_ops.specs.declared.op.Op.{Op}
+use Rattle.insn_ops.specs.declared.op.Op.TheVariants.{Jmp, Ret}
 use Rattle.insn_table.specs.declared.insn.Operand.{Operand}
 use Rattle.insn_table.specs.declared.insn.Operand.TheVariants.{Reg, Mem, Vec, Target}
 use Rattle.insn_table.specs.declared.insn.Insn.{Insn}
-use Rattle.mnemonic_table.specs.declared.shape.Shape.{Shape}
+use Rattle.insn_spellings.specs.declared.shape.Shape.{Shape}
 use Rattle.insn_table.specs.declared.build_error.BuildError.TheVariants.{Empty, TargetOutside, FallsOff}
-use Rattle.mnemonic_table.specs.Rows.{named}
-use Rattle.mnemonic_table.specs.Spellings.{table_rows}
+use Rattle.insn_spellings.specs.Rows.{named}
+use Rattle.insn_spellings.specs.Spellings.{table_rows}
 use Rattle.insn_table.specs.Forms.{fits_of}
 use Rattle.insn_table.specs.Closed.{IsClosed, IsInside, IsLeaving}
 use Rattle.insn_table.specs.Table.{HasRegisters, IsScale, IsTableInsn}
 use Rattle.insn_table.specs.Building.{four_of, is_known, is_scale, has_registers, is_inside, goes_inside, is_leaving, leaves, fault_of, IsDraft}
-use Rattle.mnemonic_table.proofs.Bools.{both_true, either_true}
+use Rattle.insn_spellings.proofs.Bools.{both_true, either_true}
 use Rattle.insn_table.proofs.ClosedLists.{closed_list}
 use Rattle.insn_table.proofs.TableInsns.{fitted-insn}
 

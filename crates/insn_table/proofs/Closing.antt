@@ -2,22 +2,22 @@
 use Rattle.std.proofs.Common.{◌≡◌, ℕ, ◌+◌, ◌-◌, ◌^◌, ◌<◌, inl, inr, Bool, true, false, ◌||◌, List, [], ◌∷◌, ◌++◌, length, Some, Ok, codes, refl, sym, ap, ◌∙◌, subst, length-append, arith}
 use Rattle.std.specs.List.{AllByRecursion}
 use Rattle.std.proofs.lemmas.Bool.{le-leb}
-use Rattle.align_base.specs.declared.op.Op.{Op}
-use Rattle.align_base.specs.declared.op.Op.TheVariants.{Mov, Add, Sub, Ret}
+use Rattle.insn_ops.specs.declared.op.Op.{Op}
+use Rattle.insn_ops.specs.declared.op.Op.TheVariants.{Mov, Add, Sub, Ret}
 use Rattle.insn_table.specs.declared.insn.Operand.{Operand}
 use Rattle.insn_table.specs.declared.insn.Operand.TheVariants.{Reg, Imm, Nothing}
 use Rattle.insn_table.specs.declared.insn.Insn.{Insn}
-use Rattle.mnemonic_table.specs.Rows.{general, named}
-use Rattle.mnemonic_table.specs.Spellings.{table_rows}
-use Rattle.mnemonic_table.specs.LegacyRows.{add_to_cltq, cmova_to_cmovnc, cmovne_to_cmovz, cmp_to_lea, mov_to_or, packss_to_pop, por_to_sar, set_rows, shl_to_test, xor_rows}
-use Rattle.mnemonic_table.specs.VexRows.{vand_to_vpbroadcast, vpcmp_to_vpmul, vpor_to_vzeroupper}
+use Rattle.insn_spellings.specs.Rows.{general, named}
+use Rattle.insn_spellings.specs.Spellings.{table_rows}
+use Rattle.insn_spellings.specs.LegacyRows.{add_to_cltq, cmova_to_cmovnc, cmovne_to_cmovz, cmp_to_lea, mov_to_or, packss_to_pop, por_to_sar, set_rows, shl_to_test, xor_rows}
+use Rattle.insn_spellings.specs.VexRows.{vand_to_vpbroadcast, vpcmp_to_vpmul, vpor_to_vzeroupper}
 use Rattle.insn_table.specs.Classes.{is_immediate}
 use Rattle.insn_table.specs.Forms.{fits_of}
 use Rattle.insn_table.specs.Plain.{IsRegister, IsSignedWord, IsSource, IsReturn, IsMoveOp, IsPlainMove, IsPlain}
 use Rattle.insn_table.specs.Closed.{IsInside, IsLeaving, IsClosed}
 use Rattle.insn_table.specs.Table.{HasRegisters, IsTableInsn}
 use Rattle.insn_table.proofs.ClosedLists.{closed_by}
-use Rattle.mnemonic_table.proofs.Rows.{named-row}
+use Rattle.insn_spellings.proofs.Rows.{named-row}
 
 -- an instruction of 64 bits
 abbrev insn : Op → List Operand → ℕ → Insn

@@ -5,10 +5,10 @@ use Rattle.std.proofs.lemmas.Grind.{common_steps}
 use Rattle.std.proofs.lemmas.Bool.{false≢true}
 use Rattle.insn_table.specs.declared.insn.Operand.{Operand}
 use Rattle.insn_table.specs.declared.insn.Insn.{Insn}
-use Rattle.mnemonic_table.specs.declared.shape.Shape.{Shape}
+use Rattle.insn_spellings.specs.declared.shape.Shape.{Shape}
 use Rattle.insn_table.specs.declared.fitting.Misfit.{Misfit}
 use Rattle.insn_table.specs.declared.fitting.Misfit.TheVariants.{BadOperand, BadNumber}
-use Rattle.mnemonic_table.specs.Widths.{is_shape}
+use Rattle.insn_spellings.specs.Widths.{is_shape}
 use Rattle.insn_table.specs.Classes.{Form, takes}
 use Rattle.insn_table.specs.Forms.{forms, insn_of, found_form, judged_by, fits_of, HasForm}
 

@@ -2,23 +2,23 @@
 use Rattle.std.proofs.Common.{◌≡◌, ℕ, zero, suc, Bool, true, false, ◌&&◌, ◌||◌, ◌==◌, if◌then◌else◌, List, [], ◌∷◌, Option, Some, None, Ok, Err, refl, sym, ap, ◌∙◌, subst, inl, inr, ◌⊎◌, ⊎_elim, arith}
 use Rattle.std.specs.List.{AllByRecursion, list_any, find}
 use Rattle.std.proofs.lemmas.Bool.Decides.{Decides-eqb, nat_tests}
-use Rattle.align_base.specs.declared.op.Op.{Op}
-use Rattle.align_base.specs.declared.op.Op.TheVariants.{Mov, Shl, Shr, Sar, Vector}
-use Rattle.align_base.specs.declared.vector_op.VectorOp.TheVariants.{Moving}
-use Rattle.align_base.specs.declared.vector_op.MoveOp.TheVariants.{Movq}
+use Rattle.insn_ops.specs.declared.op.Op.{Op}
+use Rattle.insn_ops.specs.declared.op.Op.TheVariants.{Mov, Shl, Shr, Sar, Vector}
+use Rattle.insn_ops.specs.declared.vector_op.VectorOp.TheVariants.{Moving}
+use Rattle.insn_ops.specs.declared.vector_op.MoveOp.TheVariants.{Movq}
 use Rattle.insn_table.specs.declared.insn.Operand.{Operand}
 use Rattle.insn_table.specs.declared.insn.Operand.TheVariants.{Reg, Imm, Mem, Vec, Pool, Target, Nothing}
 use Rattle.insn_table.specs.declared.insn.Insn.{Insn}
-use Rattle.mnemonic_table.specs.declared.shape.Shape.{Shape}
+use Rattle.insn_spellings.specs.declared.shape.Shape.{Shape}
 use Rattle.insn_table.specs.declared.fitting.Misfit.TheVariants.{BadNumber}
-use Rattle.mnemonic_table.specs.Rows.{general, named}
-use Rattle.mnemonic_table.specs.Spellings.{table_rows}
-use Rattle.mnemonic_table.specs.Widths.{is_wide, has_suffix, has_shape, is_shape}
+use Rattle.insn_spellings.specs.Rows.{general, named}
+use Rattle.insn_spellings.specs.Spellings.{table_rows}
+use Rattle.insn_spellings.specs.Widths.{is_wide, has_suffix, has_shape, is_shape}
 use Rattle.insn_table.specs.Classes.{Form, takes, numbers_fit}
 use Rattle.insn_table.specs.Forms.{forms, is_shift, is_lone, counted_once, completed, width_of, is_quadword_move, is_vector, chosen, insn_with, insn_of, found_form, judged_by, fits_of}
 use Rattle.insn_table.specs.Table.{HasRegisters, IsTableInsn}
-use Rattle.mnemonic_table.proofs.Bools.{both_true, either_true}
-use Rattle.mnemonic_table.proofs.Rows.{rows-named, named-row}
+use Rattle.insn_spellings.proofs.Bools.{both_true, either_true}
+use Rattle.insn_spellings.proofs.Rows.{rows-named, named-row}
 
 -- the wide widths
 pub wide-cases : (w : ℕ) → is_wide w ≡ true → (w ≡ 16) ⊎ ((w ≡ 32) ⊎ (w ≡ 64))

@@ -1,19 +1,19 @@
 -- What mnemonics and operands make: instructions, and closed functions of them.
 use Rattle.std.specs.Prelude.{◌≡◌, ℕ, ◌+◌, ◌-◌, ◌^◌, ◌<◌, ◌==◌, nat_lt, Bool, true, false, ◌&&◌, ◌||◌, List, [], ◌∷◌, ◌++◌, length, Option, Some, None, Result, Ok, Err, slice_get, if◌then◌else◌}
 use Rattle.std.specs.List.{list_all, AllByRecursion}
-use Rattle.align_base.specs.declared.op.Op.{Op}
-use Rattle.align_base.specs.declared.op.Op.TheVariants.{Jmp, Ret}
+use Rattle.insn_ops.specs.declared.op.Op.{Op}
+use Rattle.insn_ops.specs.declared.op.Op.TheVariants.{Jmp, Ret}
 use Rattle.insn_table.specs.declared.insn.Operand.{Operand}
 use Rattle.insn_table.specs.declared.insn.Operand.TheVariants.{Reg, Mem, Vec, Target, Nothing}
 use Rattle.insn_table.specs.declared.insn.Insn.{Insn}
-use Rattle.mnemonic_table.specs.declared.shape.Shape.{Shape}
+use Rattle.insn_spellings.specs.declared.shape.Shape.{Shape}
 use Rattle.insn_table.specs.declared.fitting.Misfit.{Misfit}
 use Rattle.insn_table.specs.declared.fitting.Misfit.TheVariants.{BadOperand}
 use Rattle.insn_table.specs.declared.assembling.Statement.{Statement}
 use Rattle.insn_table.specs.declared.build_error.BuildError.{BuildError}
 use Rattle.insn_table.specs.declared.build_error.BuildError.TheVariants.{UnknownMnemonic, Unfit, BadRegister, TooMany, Empty, TargetOutside, FallsOff}
-use Rattle.mnemonic_table.specs.Rows.{named}
-use Rattle.mnemonic_table.specs.Spellings.{table_rows}
+use Rattle.insn_spellings.specs.Rows.{named}
+use Rattle.insn_spellings.specs.Spellings.{table_rows}
 use Rattle.insn_table.specs.Forms.{fits_of}
 use Rattle.insn_table.specs.Table.{IsTableInsn}
 

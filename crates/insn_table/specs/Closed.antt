@@ -1,8 +1,8 @@
 -- Closed functions: those that can be run from any of their instructions on.
 use Rattle.std.specs.Prelude.{◌≡◌, ℕ, ◌-◌, ◌^◌, ◌<◌, List, length, slice_get, Some}
 use Rattle.std.specs.List.{AllByRecursion}
-use Rattle.align_base.specs.declared.op.Op.{Op}
-use Rattle.align_base.specs.declared.op.Op.TheVariants.{Jmp, Ret}
+use Rattle.insn_ops.specs.declared.op.Op.{Op}
+use Rattle.insn_ops.specs.declared.op.Op.TheVariants.{Jmp, Ret}
 use Rattle.insn_table.specs.declared.insn.Operand.{Operand}
 use Rattle.insn_table.specs.declared.insn.Operand.TheVariants.{Target}
 use Rattle.insn_table.specs.declared.insn.Insn.{Insn}

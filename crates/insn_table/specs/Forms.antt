@@ -1,21 +1,21 @@
 -- The forms of each operation, and what `fits` answers.
 use Rattle.std.specs.Prelude.{◌≡◌, ◌==◌, ℕ, Bool, true, false, ◌&&◌, not, List, [], ◌∷◌, Option, Some, None, Result, Ok, Err, IsTrue, max, slice_get, if◌then◌else◌}
 use Rattle.std.specs.List.{find, list_any}
-use Rattle.align_base.specs.declared.op.Op.{Op}
-use Rattle.align_base.specs.declared.op.Op.TheVariants.{Mov, Movabs, Add, Sub, Cmp, Test, And, Or, Xor, Inc, Dec, Neg, Not, Shl, Shr, Sar, Imul, Lea, Movzx, Movsx, Cltq, Cmov, Set, Jump, Jmp, Push, Pop, Ret, Nop, Endbr64, Vector}
-use Rattle.align_base.specs.declared.vector_op.VectorOp.TheVariants.{Moving}
-use Rattle.align_base.specs.declared.vector_op.MoveOp.TheVariants.{Movq}
+use Rattle.insn_ops.specs.declared.op.Op.{Op}
+use Rattle.insn_ops.specs.declared.op.Op.TheVariants.{Mov, Movabs, Add, Sub, Cmp, Test, And, Or, Xor, Inc, Dec, Neg, Not, Shl, Shr, Sar, Imul, Lea, Movzx, Movsx, Cltq, Cmov, Set, Jump, Jmp, Push, Pop, Ret, Nop, Endbr64, Vector}
+use Rattle.insn_ops.specs.declared.vector_op.VectorOp.TheVariants.{Moving}
+use Rattle.insn_ops.specs.declared.vector_op.MoveOp.TheVariants.{Movq}
 use Rattle.insn_table.specs.declared.insn.Operand.{Operand}
 use Rattle.insn_table.specs.declared.insn.Operand.TheVariants.{Reg, Imm, Mem, Vec, Nothing}
 use Rattle.insn_table.specs.declared.insn.Insn.{Insn}
-use Rattle.mnemonic_table.specs.declared.shape.Shape.{Shape}
+use Rattle.insn_spellings.specs.declared.shape.Shape.{Shape}
 use Rattle.insn_table.specs.declared.classes.Class.TheVariants.{Register, Writable, Readable, Source, Immediate, Wide, Count, Address, Label}
 use Rattle.insn_table.specs.declared.fitting.Misfit.{Misfit}
 use Rattle.insn_table.specs.declared.fitting.Misfit.TheVariants.{BadOperand, BadNumber}
 use Rattle.insn_table.specs.Classes.{Form, none, one, two, three, takes, numbers_fit}
-use Rattle.mnemonic_table.specs.Rows.{general}
+use Rattle.insn_spellings.specs.Rows.{general}
 use Rattle.insn_table.specs.VectorForms.{vector_forms}
-use Rattle.mnemonic_table.specs.Widths.{is_wide, is_shape}
+use Rattle.insn_spellings.specs.Widths.{is_wide, is_shape}
 
 -- The forms of a general operation of w bits. A move by condition has none of 8 bits, nor one of 0 bits: there its suffix
 -- was left out, and its destination is no register.

@@ -1,11 +1,11 @@
 -- The operands that each instruction on vectors takes, in the order of the text: sources first, the destination last.
 use Rattle.std.specs.Prelude.{ℕ, Bool, ◌&&◌, ◌||◌, ◌==◌, List, [], ◌∷◌, if◌then◌else◌}
-use Rattle.align_base.specs.declared.vector_op.LaneOp.{LaneOp}
-use Rattle.align_base.specs.declared.vector_op.LaneOp.TheVariants as lanes
-use Rattle.align_base.specs.declared.vector_op.MoveOp.{MoveOp}
-use Rattle.align_base.specs.declared.vector_op.MoveOp.TheVariants as moves
-use Rattle.align_base.specs.declared.vector_op.VectorOp.{VectorOp}
-use Rattle.align_base.specs.declared.vector_op.VectorOp.TheVariants as vectors
+use Rattle.insn_ops.specs.declared.vector_op.LaneOp.{LaneOp}
+use Rattle.insn_ops.specs.declared.vector_op.LaneOp.TheVariants as lanes
+use Rattle.insn_ops.specs.declared.vector_op.MoveOp.{MoveOp}
+use Rattle.insn_ops.specs.declared.vector_op.MoveOp.TheVariants as moves
+use Rattle.insn_ops.specs.declared.vector_op.VectorOp.{VectorOp}
+use Rattle.insn_ops.specs.declared.vector_op.VectorOp.TheVariants as vectors
 use Rattle.insn_table.specs.declared.classes.Class.TheVariants.{Register, Writable, Readable, Address, VectorRegister, VectorSource, Control}
 use Rattle.insn_table.specs.Classes.{Form, none, two, three, four}
 

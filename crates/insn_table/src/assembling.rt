@@ -7,7 +7,7 @@ ghost use Rattle.insn_table.specs.Building.{four_of, is_known, is_scale, has_reg
 use crate::build_error::BuildError;
 use crate::fitting::{Misfit, fits};
 use crate::insn::{Insn, Operand};
-use mnemonic_table::look_up;
+use insn_spellings::look_up;
 
 /// An instruction as it is written: its mnemonic, and its operands in the order of the text.
 #[derive(Clone, Copy)]

@@ -3,7 +3,7 @@ ghost use Rattle.std.specs.Prelude.{◌≡◌};
 ghost use Rattle.insn_table.specs.declared.build_error.BuildError.TheVariants.{Unfit, OutOfMemory};
 
 use crate::fitting::Misfit;
-use align_base::Memory;
+use outcomes::Memory;
 use std::alloc::AllocFailed;
 use thiserror::Error;
 

@@ -10,7 +10,8 @@ use crate::assembling::{Statement, assemble};
 use crate::build_error::BuildError;
 use crate::insn::{Function, Insn, Insns, Operand};
 use crate::items::Bytes;
-use align_base::{Op, Word};
+use align_base::Word;
+use insn_ops::Op;
 use std::alloc::Global;
 use std::marker::Model;
 

@@ -8,8 +8,8 @@ ghost use Rattle.insn_table.specs.Forms.{is_shift, is_lone, counted_once, comple
 use crate::classes::{Class, is_memory, number_fits, takes_kind};
 use crate::forms::forms_of;
 use crate::insn::{Insn, Operand};
-use align_base::{MoveOp, Op, VectorOp};
-use mnemonic_table::{Shape, is_shape};
+use insn_ops::{MoveOp, Op, VectorOp};
+use insn_spellings::{Shape, is_shape};
 use thiserror::Error;
 
 /// Why operands make no instruction of a shape.

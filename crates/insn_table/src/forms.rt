@@ -2,14 +2,14 @@
 ghost use Rattle.std.specs.Prelude.{◌≡◌, [], ◌∷◌, if◌then◌else◌};
 ghost use Rattle.insn_table.specs.Classes.{two};
 ghost use Rattle.insn_table.specs.Forms.{forms, general_forms};
-ghost use Rattle.mnemonic_table.specs.Widths.{is_wide};
+ghost use Rattle.insn_spellings.specs.Widths.{is_wide};
 ghost use Rattle.insn_table.specs.declared.classes.Class.TheVariants.{Readable, Register};
 
 use crate::classes::Class;
 use crate::form::{Forms, no_operand, one, three, two};
 use crate::vector_forms::vector_forms;
-use align_base::Op;
-use mnemonic_table::is_wide;
+use insn_ops::Op;
+use insn_spellings::is_wide;
 
 /// The forms of an operation of `w` bits, with VEX or without.
 pub fn forms_of(op: Op, vex: bool, w: u32) -> Forms

@@ -1,6 +1,7 @@
 //! Instructions, their operands, and functions of them.
 use crate::items::{Bytes, Items};
-use align_base::{Op, Word};
+use align_base::Word;
+use insn_ops::Op;
 
 /// An operand of an instruction.
 #[derive(Clone, Copy, Debug, PartialEq, Eq)]

@@ -1,7 +1,7 @@
 //! The instructions that `align` reads and runs, and functions made of them.
 //!
 //! Each operation has its forms, which say by a class for each operand what the operation takes. `fits`
-//! makes an instruction of a shape, which a mnemonic names (`look_up` of `mnemonic_table`), and of
+//! makes an instruction of a shape, which a mnemonic names (`look_up` of `insn_spellings`), and of
 //! operands; `assemble` does both. What they answer is exactly what `specs/` says, with the reason of each
 //! refusal: an instruction that was made is one of the table (`IsTableInsn`).
 //!
@@ -30,14 +30,14 @@ mod items;
 mod table;
 mod vector_forms;
 
-pub use align_base::{Cond, Flags, Op};
+pub use insn_ops::{Cond, Flags, Op};
 pub use assembling::{Statement, assemble};
 pub use build_error::BuildError;
 pub use builder::{FunctionBuilder, assemble_function};
 pub use fitting::{Misfit, fits};
 pub use insn::{Function, Insn, Insns, Operand};
 pub use items::{Bytes, Items};
-pub use mnemonic_table::{Shape, look_up, mnemonics_stand_once, rows_are_named, rows_have_shapes};
+pub use insn_spellings::{Shape, look_up, mnemonics_stand_once, rows_are_named, rows_have_shapes};
 pub use table::{
     fitted_insns_are_of_the_table, forms_are_apart, plain_functions_are_closed,
     table_insns_have_mnemonics,

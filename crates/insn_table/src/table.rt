@@ -2,12 +2,12 @@
 //! instruction of the table.
 ghost use Rattle.std.specs.Prelude.{◌≡◌, ◌≤◌, ◌<◌, ◌^◌, ℕ, Bool, List, length, Some, Ok};
 ghost use Rattle.std.specs.List.{AllByRecursion, count_by};
-ghost use Rattle.align_base.specs.declared.op.Op.{Op};
+ghost use Rattle.insn_ops.specs.declared.op.Op.{Op};
 ghost use Rattle.insn_table.specs.declared.insn.Operand.{Operand};
 ghost use Rattle.insn_table.specs.declared.insn.Insn.{Insn};
-ghost use Rattle.mnemonic_table.specs.declared.shape.Shape.{Shape};
-ghost use Rattle.mnemonic_table.specs.Rows.{named};
-ghost use Rattle.mnemonic_table.specs.Spellings.{table_rows};
+ghost use Rattle.insn_spellings.specs.declared.shape.Shape.{Shape};
+ghost use Rattle.insn_spellings.specs.Rows.{named};
+ghost use Rattle.insn_spellings.specs.Spellings.{table_rows};
 ghost use Rattle.insn_table.specs.Classes.{takes};
 ghost use Rattle.insn_table.specs.Forms.{forms, fits_of};
 ghost use Rattle.insn_table.specs.Plain.{IsPlain};

@@ -4,7 +4,7 @@ ghost use Rattle.insn_table.specs.VectorForms.{computed, shifted, taken_from, sh
 
 use crate::classes::Class;
 use crate::form::{Forms, four, no_operand, three, two};
-use align_base::{LaneOp, MoveOp, VectorOp};
+use insn_ops::{LaneOp, MoveOp, VectorOp};
 
 /// The forms of an operation on vectors of `w` bits, with VEX or without.
 pub fn vector_forms(op: VectorOp, vex: bool, w: u32) -> Forms

@@ -3,7 +3,7 @@ ghost use Rattle.std.specs.Prelude.{◌≡◌, ◌++◌, ◌<◌, IfOk, OnOk, st
 ghost use Rattle.insn_text.specs.InsnText.{insn_text, operands_text};
 
 use crate::operands::push_operand;
-use align_base::Memory;
+use outcomes::Memory;
 use insn_mnemonics::push_mnemonic;
 use insn_table::{Insn, Operand};
 use std::alloc::{AllocError, Global};

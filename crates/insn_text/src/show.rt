@@ -5,7 +5,7 @@ ghost use Rattle.insn_table.specs.Closed.{IsClosed};
 ghost use Rattle.insn_text.specs.ShowText.{IsShown, heading, insn_line};
 
 use crate::insns::push_insn;
-use align_base::Memory;
+use outcomes::Memory;
 use flow_graph::Graph;
 use insn_table::{Function, Insn};
 use std::alloc::{AllocError, Global};

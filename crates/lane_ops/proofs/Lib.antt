@@ -1,3 +1,4 @@
-pub mod Masks
-pub mod Bits
-pub mod FlagRecords
+pub mod Inside
+pub mod LaneSums
+pub mod Turns
+pub mod WordSteps

@@ -1,21 +1,19 @@
-//! What the general instructions compute, and the flags that they set, in words of machine code.
+//! What the operations on vector registers compute, in words of machine code.
 //!
-//! `scalar`, `flags` and `holds` are the definitions `computed`, `flags_after` and `cond_of` of
-//! `instruction_semantics`, run: for every width from 1 to 64 bits, and without a division. None of
-//! them takes memory. The arithmetic of words that they stand on serves the operations on vectors too.
+//! `vector` is the definition `vector_of` of `lane_semantics`, run: for every operation, width, immediate and
+//! bytes. It goes once over the lanes of the result, and takes no memory.
 //!
-//! For example `scalar(Op::Add, 8, 0xff, 1)` is 0, the sum of two bytes; `flags(Op::Add, 8, 0xff, 1, before)`
-//! has the carry and the zero flag set, so `holds(Cond::B, ..)` of them is `Some(true)`.
+//! For example `vector(VectorOp::Lanewise(LaneOp::Padd(LaneWidth::Byte)), 128, 0, &a, &b)` has at each of its 16
+//! low bytes the sum of the bytes of `a` and `b` there, and zeros above.
 #![tactic(auto)]
 
-mod conds;
-mod flag_rules;
+mod lanes;
+mod lanewise;
+mod moves;
 mod rows;
-mod words;
+mod saturation;
+mod sums;
+mod widths;
 
-pub use conds::holds;
-pub use flag_rules::flags;
-pub use rows::scalar;
-pub use words::{
-    low_bits, word_add, word_mul, word_not, word_sar, word_shl, word_shr, word_sub, word_sx,
-};
+pub use lanes::vector;
+pub use rows::is_vector_row;

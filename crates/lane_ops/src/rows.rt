@@ -1,52 +1,77 @@
-//! What each operation computes of its operands.
+//! Which rows the table has.
+ghost use Rattle.std.specs.Prelude.{◌↔◌, IsTrue};
+ghost use Rattle.lane_semantics.specs.LaneRows.{IsLaneRow};
+ghost use Rattle.lane_semantics.specs.MoveRows.{HasMoveWidths, IsMoveRow, Widens};
+ghost use Rattle.lane_semantics.specs.VectorRows.{IsVectorRow};
 
-ghost use Rattle.std.specs.Prelude.{◌≡◌, ◌^◌, ◌<◌};
-ghost use Rattle.instruction_semantics.specs.Rows.{Computes, computed};
+use crate::widths::bits;
+use insn_ops::{LaneOp, LaneWidth, MoveOp, VectorOp};
 
-use crate::words::{
-    low_bits, word_add, word_mul, word_not, word_sar, word_shl, word_shr, word_sub, word_sx,
-};
-use align_base::Op;
-
-/// What an instruction computes of its destination `a` and its source `b`, at a width; the count of
-/// a shift is its source.
-pub fn scalar(op: Op, width: u32, a: u64, b: u64) -> u64
-    requires { Computes op width a b }
-    ensures value { result ≡ computed op width a b }
-    ensures below { result < 2 ^ width }
+/// Whether the table has a row by lane at this lane width.
+fn is_lane_row(op: LaneOp) -> bool
+    ensures { IsTrue result ↔ IsLaneRow op }
 {
     match op {
-        Op::Mov => b,
-        Op::Movabs => b,
-        Op::Add => word_add(width, a, b),
-        Op::Sub => word_sub(width, a, b),
-        Op::Cmp => word_sub(width, a, b),
-        Op::Test => a & b,
-        Op::And => a & b,
-        Op::Or => a | b,
-        Op::Xor => a ^ b,
-        Op::Inc => word_add(width, a, 1),
-        Op::Dec => word_sub(width, a, 1),
-        Op::Neg => word_sub(width, 0, a),
-        Op::Not => word_not(width, a),
-        Op::Shl => word_shl(width, a, b),
-        Op::Shr => word_shr(width, a, b),
-        Op::Sar => word_sar(width, a, b),
-        Op::Imul => word_mul(width, a, b),
-        Op::Lea => low_bits(width, b),
-        Op::Movzx(_) => b,
-        Op::Movsx(from) => word_sx(from, width, b),
-        Op::Cltq => word_sx(32, 64, b),
-        // These compute nothing, and are not asked for.
-        Op::Cmov(_) => a,
-        Op::Set(_) => a,
-        Op::Jump(_) => a,
-        Op::Jmp => a,
-        Op::Push => a,
-        Op::Pop => a,
-        Op::Ret => a,
-        Op::Nop => a,
-        Op::Endbr64 => a,
-        Op::Vector(_) => a,
+        LaneOp::Padds(l) | LaneOp::Psubs(l) | LaneOp::Paddus(l) | LaneOp::Psubus(l) => {
+            bits(l) <= 16
+        }
+        LaneOp::Pavg(l) => bits(l) <= 16,
+        LaneOp::Pcmpeq(l) | LaneOp::Pcmpgt(l) | LaneOp::Pabs(l) => bits(l) <= 32,
+        LaneOp::Pmins(l) | LaneOp::Pmaxs(l) | LaneOp::Pminu(l) | LaneOp::Pmaxu(l) => bits(l) <= 32,
+        LaneOp::Pmull(l) | LaneOp::Psra(l) => bits(l) <= 32 && 16 <= bits(l),
+        LaneOp::Psll(l) | LaneOp::Psrl(l) => 16 <= bits(l),
+        LaneOp::Padd(_) | LaneOp::Psub(_) => true,
+        LaneOp::Pand | LaneOp::Pandn | LaneOp::Por | LaneOp::Pxor => true,
+        LaneOp::Pmulhw | LaneOp::Pmulhuw | LaneOp::Pmuludq => true,
+    }
+}
+
+/// Whether lanes are widened from one width to another.
+fn widens(from: LaneWidth, to: LaneWidth) -> bool
+    ensures { IsTrue result ↔ Widens from to }
+{
+    match from {
+        LaneWidth::Byte => matches!(to, LaneWidth::Word | LaneWidth::Doubleword),
+        LaneWidth::Word => matches!(to, LaneWidth::Doubleword),
+        LaneWidth::Doubleword => matches!(to, LaneWidth::Quadword),
+        LaneWidth::Quadword => false,
+    }
+}
+
+/// Whether the table has a row that moves at these lane widths.
+fn has_move_widths(op: MoveOp) -> bool
+    ensures { IsTrue result ↔ HasMoveWidths op }
+{
+    match op {
+        MoveOp::Packss(l) => 16 <= bits(l) && bits(l) <= 32,
+        MoveOp::Pmovzx(l, m) | MoveOp::Pmovsx(l, m) => widens(l, m),
+        _ => true,
+    }
+}
+
+/// Whether a row that moves has vectors of `w` bits, where `w` is 128 or 256.
+fn is_move_row(op: MoveOp, w: u32) -> bool
+    ensures { IsTrue result ↔ IsMoveRow op w }
+{
+    match op {
+        MoveOp::Movd | MoveOp::Movq => w == 128,
+        MoveOp::Extracti128 | MoveOp::Inserti128 => w == 256,
+        MoveOp::Perm2i128 | MoveOp::Permq => w == 256,
+        _ => true,
+    }
+}
+
+/// Whether the table has this row on vectors of `w` bits.
+pub fn is_vector_row(op: VectorOp, w: u32) -> bool
+    ensures { IsTrue result ↔ IsVectorRow op w }
+{
+    if w != 128 && w != 256 {
+        return false;
+    }
+    match op {
+        VectorOp::Lanewise(op) => is_lane_row(op),
+        VectorOp::Moving(op) => has_move_widths(op) && is_move_row(op, w),
+        VectorOp::Pmaddwd | VectorOp::Psadbw | VectorOp::Pshufb | VectorOp::Pmovmskb => true,
+        VectorOp::Vzeroupper => false,
     }
 }

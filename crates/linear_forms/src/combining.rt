@@ -6,9 +6,9 @@ ghost use Rattle.linear_forms.specs.Combinations.{IsAt, IsCombination, weighted}
 ghost use Rattle.linear_forms.specs.Places.{HasAtoms, IsAmong, word_at};
 
 use crate::places::{Place, add_atoms, word_of};
-use align_base::Memory;
+use outcomes::Memory;
 use indexmap::IndexSet;
-use lane_ops::low_bits;
+use scalar_ops::low_bits;
 use node_forms::Form;
 use std::alloc::Global;
 

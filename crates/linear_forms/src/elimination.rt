@@ -5,7 +5,7 @@ ghost use Rattle.linear_forms.specs.Rows.{AddsUp, IsMultiple, Makes, word};
 
 use crate::pivot::{Pivot, find_pivot};
 use crate::row::Row;
-use lane_ops::low_bits;
+use scalar_ops::low_bits;
 
 /// What is left of the target, where weights of the rows make it: behind its first `n` words stand the
 /// weights. None where no weights do.

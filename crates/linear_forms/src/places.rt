@@ -3,7 +3,7 @@ ghost use Rattle.std.specs.Prelude.{◌≡◌, ℕ, OnOk, IfOk, length, slice_in
 ghost use Rattle.node_forms.specs.Sums.{listed_coefficient};
 ghost use Rattle.linear_forms.specs.Places.{HasAtoms, IsAmong, word_at};
 
-use align_base::Memory;
+use outcomes::Memory;
 use indexmap::IndexSet;
 use node_forms::Form;
 use node_values::NodeId;

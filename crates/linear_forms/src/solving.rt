@@ -9,9 +9,9 @@ ghost use Rattle.linear_forms.specs.Rows.{word};
 use crate::elimination::eliminate;
 use crate::places::{Place, add_atoms, word_of};
 use crate::row::Row;
-use align_base::Memory;
+use outcomes::Memory;
 use indexmap::IndexSet;
-use lane_ops::low_bits;
+use scalar_ops::low_bits;
 use node_forms::Form;
 use std::alloc::Global;
 

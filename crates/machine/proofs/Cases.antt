@@ -1,12 +1,12 @@
 -- What the step does in small cases, computed.
 use Rattle.std.specs.Prelude.{◌≡◌, refl, ℕ, ◌+◌, ◌^◌, ◌%◌, true, false, List, [], ◌∷◌, Some, None, slice_index, pos, negsuc}
-use Rattle.align_base.specs.declared.op.Cond.TheVariants as conds
-use Rattle.align_base.specs.declared.op.Op.{Op}
-use Rattle.align_base.specs.declared.op.Op.TheVariants as ops
+use Rattle.insn_ops.specs.declared.op.Cond.TheVariants as conds
+use Rattle.insn_ops.specs.declared.op.Op.{Op}
+use Rattle.insn_ops.specs.declared.op.Op.TheVariants as ops
 use Rattle.insn_table.specs.declared.insn.Insn.{Insn}
 use Rattle.insn_table.specs.declared.insn.Operand.{Operand}
 use Rattle.insn_table.specs.declared.insn.Operand.TheVariants.{Reg, Imm, Mem, Nothing}
-use Rattle.instruction_semantics.specs.FlagRules.{flags_after}
+use Rattle.insn_semantics.specs.FlagRules.{flags_after}
 use Rattle.runs.specs.declared.ends.RunEnd.{RunEnd}
 use Rattle.runs.specs.declared.ends.RunEnd.TheVariants.{Returned, Faulted, Unset}
 use Rattle.machine.specs.Machine.{Machine, no_flags}

@@ -4,24 +4,24 @@ use Rattle.std.specs.List.{AllByRecursion, find, list_any}
 use Rattle.std.specs.Cmp.Lexicographic.{pointwise}
 use Rattle.std.proofs.lemmas.Bool.{ltb-true}
 use Rattle.std.proofs.lemmas.Bool.Decides.{Decides-eqb}
-use Rattle.align_base.specs.declared.op.Op.{Op}
-use Rattle.align_base.specs.declared.op.Op.TheVariants as ops
-use Rattle.align_base.specs.declared.vector_op.VectorOp.{VectorOp}
-use Rattle.align_base.specs.declared.vector_op.VectorOp.TheVariants.{Moving, Vzeroupper}
-use Rattle.align_base.specs.declared.vector_op.MoveOp.TheVariants.{Movq}
+use Rattle.insn_ops.specs.declared.op.Op.{Op}
+use Rattle.insn_ops.specs.declared.op.Op.TheVariants as ops
+use Rattle.insn_ops.specs.declared.vector_op.VectorOp.{VectorOp}
+use Rattle.insn_ops.specs.declared.vector_op.VectorOp.TheVariants.{Moving, Vzeroupper}
+use Rattle.insn_ops.specs.declared.vector_op.MoveOp.TheVariants.{Movq}
 use Rattle.insn_table.specs.declared.insn.Insn.{Insn}
 use Rattle.insn_table.specs.declared.insn.Operand.{Operand}
 use Rattle.insn_table.specs.declared.insn.Operand.TheVariants.{Reg, Imm, Mem, Vec, Pool, Target, Nothing}
 use Rattle.insn_table.specs.declared.classes.Class.{Class}
 use Rattle.insn_table.specs.declared.classes.Class.TheVariants.{Register, Readable, Writable, Count, Address, Label, Absent}
-use Rattle.mnemonic_table.specs.declared.shape.Shape.{Shape}
+use Rattle.insn_spellings.specs.declared.shape.Shape.{Shape}
 use Rattle.insn_table.specs.Classes.{Form, is_target, number_fits, numbers_fit, one, takes, takes_kind, two, is_nothing}
-use Rattle.mnemonic_table.specs.Rows.{general}
-use Rattle.mnemonic_table.specs.Widths.{has_shape, has_suffix, has_width, is_long, is_shape, is_wide, widens_to}
+use Rattle.insn_spellings.specs.Rows.{general}
+use Rattle.insn_spellings.specs.Widths.{has_shape, has_suffix, has_width, is_long, is_shape, is_wide, widens_to}
 use Rattle.insn_table.specs.Forms.{forms, chosen, is_quadword_move, is_vector, told_width, width_of}
 use Rattle.insn_table.specs.Closed.{IsClosed, IsInside}
 use Rattle.insn_table.specs.Table.{HasRegisters, IsTableInsn}
-use Rattle.mnemonic_table.proofs.Bools.{both_true, either_true}
+use Rattle.insn_spellings.proofs.Bools.{both_true, either_true}
 use Rattle.insn_table.proofs.TableInsns.{IsMade, fitted-made, wide-cases}
 use Rattle.machine.specs.Access.{arity}
 use Rattle.machine.specs.Family.{family_of, vector_family}

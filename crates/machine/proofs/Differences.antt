@@ -7,8 +7,8 @@ use Rattle.std.proofs.lemmas.Bool.Decides.{Decides-eqb}
 use Rattle.std.proofs.lemmas.Grind.{common_steps}
 use Rattle.std.proofs.lemmas.Option.{get_or_from_slice_get, slice_get_within}
 use Rattle.std.proofs.lemmas.Slice.Eq.{slice_eq-Decides}
-use Rattle.align_base.specs.declared.output.Output.{Output}
-use Rattle.align_base.specs.declared.output.Output.TheVariants.{Vec}
+use Rattle.insn_ops.specs.declared.output.Output.{Output}
+use Rattle.insn_ops.specs.declared.output.Output.TheVariants.{Vec}
 use Rattle.machine.specs.declared.difference.Difference.{Difference}
 use Rattle.machine.specs.declared.difference.Difference.TheVariants.{Out, Byte}
 use Rattle.memory_spans.specs.declared.span.Span.{Span}

@@ -2,9 +2,9 @@
 use Rattle.std.proofs.Common.{◌≡◌, ◌⊎◌, inl, inr, ℕ, ◌+◌, ◌-◌, ◌/◌, ◌%◌, ◌^◌, ◌<◌, ◌≤◌, Bool, true, false, not, ◌&&◌, ◌||◌, nat_lt, List, [], ◌∷◌, length, take, slice_index, Option, refl, sym, ◌∙◌, ap, subst, arith}
 use Rattle.std.specs.List.{list_all, list_any}
 use Rattle.std.proofs.lemmas.Bool.{and_from, and_parts, cond_both, lt-ltb, ltb-false, ltb-true, not-true, or_cases, or_left, or_right}
-use Rattle.align_base.specs.declared.op.Flags.{Flags}
-use Rattle.align_base.specs.declared.op.Op.{Op}
-use Rattle.align_base.specs.declared.op.Op.TheVariants as ops
+use Rattle.insn_ops.specs.declared.op.Flags.{Flags}
+use Rattle.insn_ops.specs.declared.op.Op.{Op}
+use Rattle.insn_ops.specs.declared.op.Op.TheVariants as ops
 use Rattle.std.proofs.lemmas.List.{length-take}
 use Rattle.insn_table.specs.declared.insn.Insn.{Insn}
 use Rattle.insn_table.specs.declared.insn.Operand.{Operand}
@@ -12,7 +12,7 @@ use Rattle.insn_table.specs.declared.insn.Operand.TheVariants.{Reg, Imm, Mem, Ve
 use Rattle.insn_table.specs.Classes.{is_addressed}
 use Rattle.insn_table.specs.Closed.{IsClosed}
 use Rattle.insn_table.specs.Table.{IsTableInsn}
-use Rattle.instruction_semantics.specs.Words.{bit}
+use Rattle.insn_semantics.specs.Words.{bit}
 use Rattle.machine.specs.declared.operands.Family.{Family}
 use Rattle.machine.specs.declared.operands.Family.TheVariants.{Address, Computing, Branch, Choice, Clearing, Idle, Jump, OnVectors, Popping, Pushing, Return, Setting}
 use Rattle.machine.specs.Access.{Access, access_of, accesses, allows, allows_by, are_aligned, holds_access, is_allowed, is_on_stack, stack_pointer, target_width, writes}

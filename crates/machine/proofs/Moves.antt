@@ -1,14 +1,14 @@
 -- What a plain move, sum or difference does to the whole state: the registers change as in the short form, the flags
 -- somehow, and the place is the next one.
 use Rattle.std.proofs.Common.{◌≡◌, ℕ, ◌+◌, ◌-◌, ◌^◌, ◌%◌, ◌<◌, Bool, List, [], ◌∷◌, slice_get, slice_index, slice_set, Some, sym, ◌∙◌, ap, subst, arith}
-use Rattle.align_base.specs.declared.op.Flags.{Flags}
-use Rattle.align_base.specs.declared.op.Op.{Op}
-use Rattle.align_base.specs.declared.op.Op.TheVariants.{Mov, Add, Sub}
+use Rattle.insn_ops.specs.declared.op.Flags.{Flags}
+use Rattle.insn_ops.specs.declared.op.Op.{Op}
+use Rattle.insn_ops.specs.declared.op.Op.TheVariants.{Mov, Add, Sub}
 use Rattle.insn_table.specs.declared.insn.Insn.{Insn}
 use Rattle.insn_table.specs.declared.insn.Operand.{Operand}
 use Rattle.insn_table.specs.declared.insn.Operand.TheVariants.{Reg, Imm, Mem, Vec, Pool, Target, Nothing}
 use Rattle.insn_table.specs.Plain.{IsMoveOp, IsPlainMove, IsRegister, IsSource}
-use Rattle.instruction_semantics.specs.FlagRules.{flags_after}
+use Rattle.insn_semantics.specs.FlagRules.{flags_after}
 use Rattle.machine.specs.Machine.{AreRegs, Machine}
 use Rattle.runs.specs.Run.{Step, Goes}
 use Rattle.machine.specs.Step.{destination_value, insn_step, source_value, step_of}

@@ -1,8 +1,8 @@
 -- Laws of plain functions: how they end, and when two are equivalent.
 use Rattle.std.proofs.Common.{◌≡◌, ◌≢◌, ℕ, zero, suc, ◌-◌, ◌*◌, ◌%◌, ◌^◌, max, List, [], ◌∷◌, ◌++◌, length, take, slice_get, slice_index, Some, sym, ◌∙◌, ap, subst, length-append, arith}
 use Rattle.std.proofs.Math.Seq.{take-append_seam}
-use Rattle.align_base.specs.declared.output.Output.{Output}
-use Rattle.align_base.specs.declared.output.Output.TheVariants.{Reg}
+use Rattle.insn_ops.specs.declared.output.Output.{Output}
+use Rattle.insn_ops.specs.declared.output.Output.TheVariants.{Reg}
 use Rattle.insn_table.specs.declared.insn.Insn.{Insn}
 use Rattle.insn_table.specs.Plain.{IsPlain}
 use Rattle.machine.specs.Difference.{Agree, SamePlainEnd}

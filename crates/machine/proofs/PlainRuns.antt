@@ -1,8 +1,8 @@
 -- What plain functions do from a start state: they return at their last instruction.
 use Rattle.std.proofs.Common.{◌≡◌, ℕ, zero, suc, ◌+◌, List, [], ◌∷◌, ◌++◌, length, drop, slice_get, slice_index, unwrap_or, Some, Bool, refl, sym, ◌∙◌, ap, subst, add-zero, zero-add, eq-eqb, get_or-set_other, length-append, arith}
 use Rattle.std.specs.List.{AllByRecursion}
-use Rattle.align_base.specs.declared.op.Op.{Op}
-use Rattle.align_base.specs.declared.op.Op.TheVariants.{Ret}
+use Rattle.insn_ops.specs.declared.op.Op.{Op}
+use Rattle.insn_ops.specs.declared.op.Op.TheVariants.{Ret}
 use Rattle.insn_table.specs.declared.insn.Operand.{Operand}
 use Rattle.insn_table.specs.declared.insn.Operand.TheVariants.{Reg, Imm, Mem, Vec, Pool, Target, Nothing}
 use Rattle.insn_table.specs.declared.insn.Insn.{Insn}

@@ -1,15 +1,15 @@
 -- What a row computes, by its family.
 use Rattle.std.proofs.Common.{◌≡◌, ◌⊎◌, ℕ, zero, suc, ◌%◌, ◌^◌, ◌<◌, Bool, true, false, inl, inr, List, refl, sym, ◌∙◌, ap, subst, if◌then◌else◌, arith, lit<}
 use Rattle.std.proofs.Math.Nat.{mod-eq_of_lt, div-one, pow-suc}
-use Rattle.align_base.specs.declared.op.Flags.{Flags}
-use Rattle.align_base.specs.declared.op.Cond.{Cond}
-use Rattle.align_base.specs.declared.op.Op.{Op}
-use Rattle.align_base.specs.declared.op.Op.TheVariants as ops
+use Rattle.insn_ops.specs.declared.op.Flags.{Flags}
+use Rattle.insn_ops.specs.declared.op.Cond.{Cond}
+use Rattle.insn_ops.specs.declared.op.Op.{Op}
+use Rattle.insn_ops.specs.declared.op.Op.TheVariants as ops
 use Rattle.insn_table.specs.declared.insn.Insn.{Insn}
-use Rattle.instruction_semantics.specs.Words.{bit}
-use Rattle.instruction_semantics.specs.Exprs.{value}
-use Rattle.instruction_semantics.specs.Rows.{Computes, computed, row_expr}
-use Rattle.instruction_semantics.specs.FlagRules.{flags_after}
+use Rattle.insn_semantics.specs.Words.{bit}
+use Rattle.insn_semantics.specs.Exprs.{value}
+use Rattle.insn_semantics.specs.Rows.{Computes, computed, row_expr}
+use Rattle.insn_semantics.specs.FlagRules.{flags_after}
 use Rattle.machine.specs.declared.operands.Family.TheVariants.{Computing, Address, Choice, Setting}
 use Rattle.machine.specs.Access.{source_width}
 use Rattle.machine.proofs.VectorFamilies.{no_vectors, not_a_width, row_width}

@@ -3,16 +3,16 @@ use Rattle.std.proofs.Common.{◌≡◌, ℕ, zero, suc, ◌/◌, ◌%◌, ◌^�
 use Rattle.std.proofs.Math.Nat.{pow-suc}
 use Rattle.std.proofs.lemmas.Bool.{cond_both}
 use Rattle.std.proofs.lemmas.Nat.{mod_below, pow_pos}
-use Rattle.align_base.specs.declared.op.Op.{Op}
-use Rattle.align_base.specs.declared.op.Op.TheVariants as ops
+use Rattle.insn_ops.specs.declared.op.Op.{Op}
+use Rattle.insn_ops.specs.declared.op.Op.TheVariants as ops
 use Rattle.insn_table.specs.Table.{HasRegisters}
 use Rattle.insn_table.specs.declared.insn.Insn.{Insn}
 use Rattle.insn_table.specs.declared.insn.Operand.{Operand}
 use Rattle.insn_table.specs.declared.insn.Operand.TheVariants.{Reg, Imm, Mem, Vec, Pool, Target, Nothing}
-use Rattle.instruction_semantics.specs.Exprs.{value}
-use Rattle.instruction_semantics.specs.Rows.{computed, row_expr}
-use Rattle.instruction_semantics.specs.Words.{bit}
-use Rattle.instruction_semantics.proofs.WordLaws.{computed_below}
+use Rattle.insn_semantics.specs.Exprs.{value}
+use Rattle.insn_semantics.specs.Rows.{computed, row_expr}
+use Rattle.insn_semantics.specs.Words.{bit}
+use Rattle.insn_semantics.proofs.WordLaws.{computed_below}
 use Rattle.machine.specs.declared.operands.Family.{Family}
 use Rattle.machine.specs.declared.operands.Family.TheVariants.{Computing, OnVectors, Clearing, Address, Choice, Setting, Branch, Jump, Pushing, Popping, Return, Idle}
 use Rattle.machine.specs.Access.{source_width, stack_pointer, writes}

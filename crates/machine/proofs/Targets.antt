@@ -1,7 +1,7 @@
 -- What a row's operands need is what its instruction has.
 use Rattle.std.proofs.Common.{ℕ, ◌-◌, ◌==◌, Bool, true, false, if◌then◌else◌, lit<}
-use Rattle.align_base.specs.declared.op.Op.{Op}
-use Rattle.align_base.specs.declared.op.Op.TheVariants as ops
+use Rattle.insn_ops.specs.declared.op.Op.{Op}
+use Rattle.insn_ops.specs.declared.op.Op.TheVariants as ops
 use Rattle.insn_table.specs.Table.{HasRegisters}
 use Rattle.insn_table.specs.declared.insn.Insn.{Insn}
 use Rattle.insn_table.specs.declared.insn.Operand.{Operand}

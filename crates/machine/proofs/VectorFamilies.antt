@@ -1,11 +1,11 @@
 -- Families of operations on words, and that those on vectors are others.
 use Rattle.std.proofs.Common.{◌≡◌, true, inl, inr, ℕ, refl, sym, subst, arith}
-use Rattle.align_base.specs.declared.op.Op.{Op}
-use Rattle.align_base.specs.declared.op.Op.TheVariants as ops
-use Rattle.align_base.specs.declared.vector_op.VectorOp.{VectorOp}
-use Rattle.align_base.specs.declared.vector_op.VectorOp.TheVariants.{Lanewise, Moving, Vzeroupper}
+use Rattle.insn_ops.specs.declared.op.Op.{Op}
+use Rattle.insn_ops.specs.declared.op.Op.TheVariants as ops
+use Rattle.insn_ops.specs.declared.vector_op.VectorOp.{VectorOp}
+use Rattle.insn_ops.specs.declared.vector_op.VectorOp.TheVariants.{Lanewise, Moving, Vzeroupper}
 use Rattle.insn_table.specs.declared.insn.Insn.{Insn}
-use Rattle.vector_semantics.specs.VectorRows.{IsVectorWidth}
+use Rattle.lane_semantics.specs.VectorRows.{IsVectorWidth}
 use Rattle.machine.specs.declared.operands.Family.{Family}
 use Rattle.machine.specs.declared.operands.Family.TheVariants.{Clearing, OnVectors}
 use Rattle.machine.specs.Access.{target_width, writes}

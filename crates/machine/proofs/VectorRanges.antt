@@ -6,25 +6,25 @@ use Rattle.std.proofs.Math.Nat.{pow-suc, pow-le-pow_right}
 use Rattle.std.proofs.lemmas.List.{length-map, length-replicate, length-take, length-drop}
 use Rattle.std.proofs.lemmas.Nat.{mod_below}
 use Rattle.std.proofs.lemmas.Option.{slice_get-get_or}
-use Rattle.align_base.specs.declared.op.Op.{Op}
-use Rattle.align_base.specs.declared.op.Op.TheVariants as ops
-use Rattle.align_base.specs.declared.vector_op.LaneOp.{LaneOp}
-use Rattle.align_base.specs.declared.vector_op.LaneOp.TheVariants as lane_ops
-use Rattle.align_base.specs.declared.vector_op.LaneWidth.{LaneWidth}
-use Rattle.align_base.specs.declared.vector_op.LaneWidth.TheVariants.{Byte, Word, Doubleword, Quadword}
-use Rattle.align_base.specs.declared.vector_op.VectorOp.{VectorOp}
-use Rattle.align_base.specs.declared.vector_op.VectorOp.TheVariants as vectors
+use Rattle.insn_ops.specs.declared.op.Op.{Op}
+use Rattle.insn_ops.specs.declared.op.Op.TheVariants as ops
+use Rattle.insn_ops.specs.declared.vector_op.LaneOp.{LaneOp}
+use Rattle.insn_ops.specs.declared.vector_op.LaneOp.TheVariants as scalar_ops
+use Rattle.insn_ops.specs.declared.vector_op.LaneWidth.{LaneWidth}
+use Rattle.insn_ops.specs.declared.vector_op.LaneWidth.TheVariants.{Byte, Word, Doubleword, Quadword}
+use Rattle.insn_ops.specs.declared.vector_op.VectorOp.{VectorOp}
+use Rattle.insn_ops.specs.declared.vector_op.VectorOp.TheVariants as vectors
 use Rattle.insn_table.specs.Table.{HasRegisters}
 use Rattle.insn_table.specs.declared.insn.Insn.{Insn}
 use Rattle.insn_table.specs.declared.insn.Operand.{Operand}
 use Rattle.insn_table.specs.declared.insn.Operand.TheVariants.{Reg, Imm, Mem, Vec, Pool, Target, Nothing}
 use Rattle.lane_views.specs.Lanes.{byte_of, bytes_of, is_lane_width, lane, number}
 use Rattle.lane_views.proofs.Settings.{length-bytes_of}
-use Rattle.vector_ops.proofs.Inside.{lanes_of_vector, move_width}
-use Rattle.vector_semantics.specs.LaneRows.{lane_op_bits}
-use Rattle.vector_semantics.specs.VectorRows.{HasRow, IsVectorRow, IsVectorWidth, result_bits}
-use Rattle.vector_semantics.specs.Vectors.{lane_value, lanes_in_turn, vector_of}
-use Rattle.vector_semantics.specs.Widths.{bits}
+use Rattle.lane_ops.proofs.Inside.{lanes_of_vector, move_width}
+use Rattle.lane_semantics.specs.LaneRows.{lane_op_bits}
+use Rattle.lane_semantics.specs.VectorRows.{HasRow, IsVectorRow, IsVectorWidth, result_bits}
+use Rattle.lane_semantics.specs.Vectors.{lane_value, lanes_in_turn, vector_of}
+use Rattle.lane_semantics.specs.Widths.{bits}
 use Rattle.machine.specs.declared.operands.Family.TheVariants.{OnVectors}
 use Rattle.machine.specs.Access.{target_width}
 use Rattle.machine.specs.Family.{family_of}
@@ -108,24 +108,24 @@ bits_width Doubleword = refl
 bits_width Quadword = refl
 
 lane_width : (op : LaneOp) → is_lane_width (lane_op_bits op) ≡ true
-lane_width (lane_ops.Padd l) = bits_width l
-lane_width (lane_ops.Psub l) = bits_width l
-lane_width (lane_ops.Padds l) = bits_width l
-lane_width (lane_ops.Psubs l) = bits_width l
-lane_width (lane_ops.Paddus l) = bits_width l
-lane_width (lane_ops.Psubus l) = bits_width l
-lane_width (lane_ops.Pcmpeq l) = bits_width l
-lane_width (lane_ops.Pcmpgt l) = bits_width l
-lane_width (lane_ops.Pmull l) = bits_width l
-lane_width (lane_ops.Psll l) = bits_width l
-lane_width (lane_ops.Psrl l) = bits_width l
-lane_width (lane_ops.Psra l) = bits_width l
-lane_width (lane_ops.Pmins l) = bits_width l
-lane_width (lane_ops.Pmaxs l) = bits_width l
-lane_width (lane_ops.Pminu l) = bits_width l
-lane_width (lane_ops.Pmaxu l) = bits_width l
-lane_width (lane_ops.Pavg l) = bits_width l
-lane_width (lane_ops.Pabs l) = bits_width l
+lane_width (scalar_ops.Padd l) = bits_width l
+lane_width (scalar_ops.Psub l) = bits_width l
+lane_width (scalar_ops.Padds l) = bits_width l
+lane_width (scalar_ops.Psubs l) = bits_width l
+lane_width (scalar_ops.Paddus l) = bits_width l
+lane_width (scalar_ops.Psubus l) = bits_width l
+lane_width (scalar_ops.Pcmpeq l) = bits_width l
+lane_width (scalar_ops.Pcmpgt l) = bits_width l
+lane_width (scalar_ops.Pmull l) = bits_width l
+lane_width (scalar_ops.Psll l) = bits_width l
+lane_width (scalar_ops.Psrl l) = bits_width l
+lane_width (scalar_ops.Psra l) = bits_width l
+lane_width (scalar_ops.Pmins l) = bits_width l
+lane_width (scalar_ops.Pmaxs l) = bits_width l
+lane_width (scalar_ops.Pminu l) = bits_width l
+lane_width (scalar_ops.Pmaxu l) = bits_width l
+lane_width (scalar_ops.Pavg l) = bits_width l
+lane_width (scalar_ops.Pabs l) = bits_width l
 lane_width _ = refl
 
 result_width : (op : VectorOp) (w : ℕ) → HasRow op w → is_lane_width (result_bits op) ≡ true

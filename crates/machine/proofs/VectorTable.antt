@@ -3,22 +3,22 @@
 use Rattle.std.proofs.Common.{◌≡◌, inl, inr, ℕ, ◌≤◌, ◌==◌, Bool, true, false, not, ◌&&◌, if◌then◌else◌, List, [], ◌∷◌, Some, refl, arith, ⊎_elim}
 use Rattle.std.specs.List.{find}
 use Rattle.std.proofs.lemmas.Bool.Decides.{Decides-eqb}
-use Rattle.align_base.specs.declared.vector_op.LaneWidth.{LaneWidth}
-use Rattle.align_base.specs.declared.vector_op.LaneWidth.TheVariants.{Byte, Word, Doubleword, Quadword}
-use Rattle.align_base.specs.declared.vector_op.LaneOp.{LaneOp}
-use Rattle.align_base.specs.declared.vector_op.LaneOp.TheVariants as lanes
-use Rattle.align_base.specs.declared.vector_op.MoveOp.{MoveOp}
-use Rattle.align_base.specs.declared.vector_op.MoveOp.TheVariants as moves
-use Rattle.align_base.specs.declared.vector_op.VectorOp.{VectorOp}
-use Rattle.align_base.specs.declared.vector_op.VectorOp.TheVariants.{Lanewise, Moving, Vzeroupper}
+use Rattle.insn_ops.specs.declared.vector_op.LaneWidth.{LaneWidth}
+use Rattle.insn_ops.specs.declared.vector_op.LaneWidth.TheVariants.{Byte, Word, Doubleword, Quadword}
+use Rattle.insn_ops.specs.declared.vector_op.LaneOp.{LaneOp}
+use Rattle.insn_ops.specs.declared.vector_op.LaneOp.TheVariants as lanes
+use Rattle.insn_ops.specs.declared.vector_op.MoveOp.{MoveOp}
+use Rattle.insn_ops.specs.declared.vector_op.MoveOp.TheVariants as moves
+use Rattle.insn_ops.specs.declared.vector_op.VectorOp.{VectorOp}
+use Rattle.insn_ops.specs.declared.vector_op.VectorOp.TheVariants.{Lanewise, Moving, Vzeroupper}
 use Rattle.insn_table.specs.Classes.{Form}
-use Rattle.mnemonic_table.specs.Widths.{has_lanes, has_move, has_vectors, is_byte, is_middle, is_narrow, is_quadword, is_word, widens}
+use Rattle.insn_spellings.specs.Widths.{has_lanes, has_move, has_vectors, is_byte, is_middle, is_narrow, is_quadword, is_word, widens}
 use Rattle.insn_table.specs.VectorForms.{exchanged, extracted, forms_at, is_vector_width, joined, move_forms, moved_quadword, only_low, only_wide, shuffled, vector_forms}
-use Rattle.mnemonic_table.proofs.Bools.{both_true, either_true}
-use Rattle.vector_semantics.specs.LaneRows.{IsLaneRow}
-use Rattle.vector_semantics.specs.MoveRows.{HasMoveWidths, IsMoveRow, Widens}
-use Rattle.vector_semantics.specs.VectorRows.{IsVectorWidth}
-use Rattle.vector_semantics.specs.Widths.{bits}
+use Rattle.insn_spellings.proofs.Bools.{both_true, either_true}
+use Rattle.lane_semantics.specs.LaneRows.{IsLaneRow}
+use Rattle.lane_semantics.specs.MoveRows.{HasMoveWidths, IsMoveRow, Widens}
+use Rattle.lane_semantics.specs.VectorRows.{IsVectorWidth}
+use Rattle.lane_semantics.specs.Widths.{bits}
 use Rattle.machine.specs.Runnable.{HasVectorRow}
 
 -- lanes

@@ -5,8 +5,8 @@
 -- have the same one where both returned from one start state.
 use Rattle.std.specs.Prelude.{◌≡◌, ◌⊎◌, ℕ, ◌/◌, ◌%◌, ◌^◌, ◌<◌, Bool, true, List, [], ◌∷◌, get_or, length, slice_get, slice_index, Some, take, nat_lt}
 use Rattle.std.specs.List.{list_any}
-use Rattle.align_base.specs.declared.output.Output.{Output}
-use Rattle.align_base.specs.declared.output.Output.TheVariants.{Reg, Vec}
+use Rattle.insn_ops.specs.declared.output.Output.{Output}
+use Rattle.insn_ops.specs.declared.output.Output.TheVariants.{Reg, Vec}
 use Rattle.machine.specs.declared.difference.Difference.{Difference}
 use Rattle.machine.specs.declared.difference.Difference.TheVariants.{Out, Byte}
 use Rattle.machine.specs.Machine.{IsInStack, Machine}

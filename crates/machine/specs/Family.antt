@@ -1,12 +1,12 @@
 -- The families of operations that a step runs alike, and the condition that an operation reads.
 use Rattle.std.specs.Prelude.{Bool, false, Option, Some, None}
-use Rattle.align_base.specs.declared.op.Cond.{Cond}
-use Rattle.align_base.specs.declared.op.Flags.{Flags}
-use Rattle.align_base.specs.declared.op.Op.{Op}
-use Rattle.align_base.specs.declared.op.Op.TheVariants as ops
-use Rattle.align_base.specs.declared.vector_op.VectorOp.{VectorOp}
-use Rattle.align_base.specs.declared.vector_op.VectorOp.TheVariants.{Vzeroupper}
-use Rattle.instruction_semantics.specs.Conditions.{cond_of}
+use Rattle.insn_ops.specs.declared.op.Cond.{Cond}
+use Rattle.insn_ops.specs.declared.op.Flags.{Flags}
+use Rattle.insn_ops.specs.declared.op.Op.{Op}
+use Rattle.insn_ops.specs.declared.op.Op.TheVariants as ops
+use Rattle.insn_ops.specs.declared.vector_op.VectorOp.{VectorOp}
+use Rattle.insn_ops.specs.declared.vector_op.VectorOp.TheVariants.{Vzeroupper}
+use Rattle.insn_semantics.specs.Conditions.{cond_of}
 use Rattle.machine.specs.declared.operands.Family.{Family}
 use Rattle.machine.specs.declared.operands.Family.TheVariants.{Computing, OnVectors, Clearing, Address, Choice, Setting, Branch, Jump, Pushing, Popping, Return, Idle}
 

@@ -2,7 +2,7 @@
 -- mentions them.
 use Rattle.std.specs.Prelude.{◌≡◌, ℕ, ◌+◌, ◌^◌, ◌<◌, ◌≤◌, true, List}
 use Rattle.std.specs.List.{AllByRecursion}
-use Rattle.align_base.specs.declared.op.Flags.{Flags}
+use Rattle.insn_ops.specs.declared.op.Flags.{Flags}
 use Rattle.machine.specs.declared.state.Region.{Region}
 use Rattle.memory_spans.specs.declared.span.Span.{Span}
 use Rattle.machine.specs.Machine.{IsInStack, Machine}

@@ -4,7 +4,7 @@
 -- Registers, flags and vectors are those of Intel's Software Developer's Manual. Regions, the stack range and the
 -- rule for stack bytes are this project's own.
 use Rattle.std.specs.Prelude.{◌≡◌, ℕ, ◌+◌, ◌^◌, ◌<◌, List, [], length, None, slice_get, slice_index, Some}
-use Rattle.align_base.specs.declared.op.Flags.{Flags}
+use Rattle.insn_ops.specs.declared.op.Flags.{Flags}
 use Rattle.machine.specs.declared.state.Region.{Region}
 use Rattle.memory_spans.specs.Memory.{offset_from}
 

@@ -1,6 +1,6 @@
 -- What the code of a step needs before it changes the state, and what it has done at the end of a row.
 use Rattle.std.specs.Prelude.{◌≡◌, ℕ, true, if◌then◌else◌}
-use Rattle.align_base.specs.declared.op.Flags.{Flags}
+use Rattle.insn_ops.specs.declared.op.Flags.{Flags}
 use Rattle.insn_table.specs.declared.insn.Insn.{Insn}
 use Rattle.insn_table.specs.Table.{HasRegisters}
 use Rattle.machine.specs.declared.operands.Family.{Family}

@@ -1,15 +1,15 @@
 -- What running an instruction needs of it: widths and numbers in their ranges.
 use Rattle.std.specs.Prelude.{◌≡◌, ◌⊎◌, ℕ, ◌-◌, ◌^◌, ◌<◌, List, length, Some, slice_get}
-use Rattle.align_base.specs.declared.op.Op.{Op}
-use Rattle.align_base.specs.declared.op.Op.TheVariants as ops
-use Rattle.align_base.specs.declared.vector_op.VectorOp.{VectorOp}
-use Rattle.align_base.specs.declared.vector_op.VectorOp.TheVariants.{Vzeroupper}
+use Rattle.insn_ops.specs.declared.op.Op.{Op}
+use Rattle.insn_ops.specs.declared.op.Op.TheVariants as ops
+use Rattle.insn_ops.specs.declared.vector_op.VectorOp.{VectorOp}
+use Rattle.insn_ops.specs.declared.vector_op.VectorOp.TheVariants.{Vzeroupper}
 use Rattle.insn_table.specs.declared.insn.Insn.{Insn}
 use Rattle.insn_table.specs.declared.insn.Operand.{Operand}
 use Rattle.insn_table.specs.declared.insn.Operand.TheVariants.{Reg, Imm}
 use Rattle.insn_table.specs.Closed.{IsLeaving}
 use Rattle.insn_table.specs.Table.{HasRegisters}
-use Rattle.vector_semantics.specs.VectorRows.{IsVectorRow, IsVectorWidth}
+use Rattle.lane_semantics.specs.VectorRows.{IsVectorRow, IsVectorWidth}
 use Rattle.machine.specs.declared.operands.Family.{Family}
 use Rattle.machine.specs.declared.operands.Family.TheVariants.{Clearing, OnVectors}
 use Rattle.machine.specs.Family.{family_of}

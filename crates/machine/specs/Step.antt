@@ -2,18 +2,18 @@
 -- and how it changes the state. The free step takes every access as allowed and every return as one; the step is the
 -- free step under the tests of what is allowed.
 --
--- What a row computes and which flags it leaves is said in instruction_semantics, with the sections of Intel's Software
+-- What a row computes and which flags it leaves is said in insn_semantics, with the sections of Intel's Software
 -- Developer's Manual, volume 2.
 use Rattle.std.specs.Prelude.{ℕ, zero, suc, ◌+◌, ◌-◌, ◌==◌, Bool, true, List, Option, Some, None, slice_get, slice_index, slice_set, if◌then◌else◌}
-use Rattle.align_base.specs.declared.op.Op.{Op}
-use Rattle.align_base.specs.declared.op.Op.TheVariants as ops
+use Rattle.insn_ops.specs.declared.op.Op.{Op}
+use Rattle.insn_ops.specs.declared.op.Op.TheVariants as ops
 use Rattle.insn_table.specs.declared.insn.Insn.{Insn}
 use Rattle.insn_table.specs.declared.insn.Operand.{Operand}
 use Rattle.insn_table.specs.declared.insn.Operand.TheVariants.{Reg, Target}
-use Rattle.instruction_semantics.specs.Words.{bit}
-use Rattle.instruction_semantics.specs.Exprs.{value}
-use Rattle.instruction_semantics.specs.Rows.{row_expr}
-use Rattle.instruction_semantics.specs.FlagRules.{flags_after}
+use Rattle.insn_semantics.specs.Words.{bit}
+use Rattle.insn_semantics.specs.Exprs.{value}
+use Rattle.insn_semantics.specs.Rows.{row_expr}
+use Rattle.insn_semantics.specs.FlagRules.{flags_after}
 use Rattle.machine.specs.declared.operands.Family.{Family}
 use Rattle.machine.specs.declared.operands.Family.TheVariants.{Branch, Choice, Clearing, Idle, Jump, OnVectors, Popping, Pushing, Return, Setting}
 use Rattle.machine.specs.Access.{allows, arity, source_width, stack_pointer, writes}

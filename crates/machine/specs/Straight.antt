@@ -1,8 +1,8 @@
 -- Straight code: plain moves, sums and differences, one after another, by what they do to the registers; and how plain
 -- functions end.
 use Rattle.std.specs.Prelude.{◌≡◌, ◌≢◌, ℕ, ◌+◌, ◌-◌, ◌^◌, ◌%◌, List, [], ◌∷◌, length, slice_index, slice_set, take}
-use Rattle.align_base.specs.declared.op.Op.{Op}
-use Rattle.align_base.specs.declared.op.Op.TheVariants.{Mov, Add, Sub}
+use Rattle.insn_ops.specs.declared.op.Op.{Op}
+use Rattle.insn_ops.specs.declared.op.Op.TheVariants.{Mov, Add, Sub}
 use Rattle.insn_table.specs.declared.insn.Insn.{Insn}
 use Rattle.insn_table.specs.declared.insn.Operand.{Operand}
 use Rattle.insn_table.specs.declared.insn.Operand.TheVariants.{Reg, Imm}

@@ -2,15 +2,15 @@
 -- first argument the operand behind that one: without VEX the destination, with VEX the first source, and where there is
 -- one source alone, none that the row reads. A vector is its 32 bytes, the lowest first.
 use Rattle.std.specs.Prelude.{ℕ, ◌+◌, ◌-◌, ◌/◌, ◌%◌, ◌^◌, Bool, List, [], ◌++◌, get_or, replicate, take, drop, map, slice_index, slice_set, if◌then◌else◌}
-use Rattle.align_base.specs.declared.op.Op.{Op}
-use Rattle.align_base.specs.declared.op.Op.TheVariants.{Vector}
-use Rattle.align_base.specs.declared.vector_op.VectorOp.{VectorOp}
+use Rattle.insn_ops.specs.declared.op.Op.{Op}
+use Rattle.insn_ops.specs.declared.op.Op.TheVariants.{Vector}
+use Rattle.insn_ops.specs.declared.vector_op.VectorOp.{VectorOp}
 use Rattle.insn_table.specs.declared.insn.Insn.{Insn}
 use Rattle.insn_table.specs.declared.insn.Operand.{Operand}
 use Rattle.insn_table.specs.declared.insn.Operand.TheVariants.{Reg, Imm, Mem, Vec, Pool}
 use Rattle.insn_table.specs.Classes.{is_number}
 use Rattle.lane_views.specs.Lanes.{lane, with_lane}
-use Rattle.vector_semantics.specs.Vectors.{vector_of}
+use Rattle.lane_semantics.specs.Vectors.{vector_of}
 use Rattle.machine.specs.Access.{arity, source_width, target_width}
 use Rattle.machine.specs.Machine.{Machine}
 use Rattle.memory_spans.specs.Memory.{with_bytes, vector_from}

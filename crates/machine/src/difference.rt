@@ -1,7 +1,7 @@
 //! Where two returned states first differ.
 ghost use Rattle.std.specs.Prelude.{◌≡◌, ◌+◌, ◌^◌, ◌<◌, ◌≤◌, IfNone, IfSome, List, MatchBool, length, true, ℕ};
 ghost use Rattle.std.specs.List.{AllByRecursion};
-ghost use Rattle.align_base.specs.declared.output.Output.{Output};
+ghost use Rattle.insn_ops.specs.declared.output.Output.{Output};
 ghost use Rattle.machine.specs.Difference as difference;
 ghost use Rattle.machine.specs.Difference.{Agree, AgreeBefore, IsFirstByte, IsFirstDifference, IsFirstOutput, IsOutput, OtherByte, SameByte, SameEnd};
 ghost use Rattle.machine.specs.Differing as differing;
@@ -13,7 +13,7 @@ ghost use Rattle.machine.specs.declared.difference.Difference.{Difference};
 
 use crate::operands::low_bits;
 use crate::state::State;
-use align_base::Output;
+use insn_ops::Output;
 use memory_spans::Span;
 
 /// Where two returned states first differ.

@@ -10,7 +10,7 @@ ghost use Rattle.machine.specs.Step as steps;
 ghost use Rattle.machine.specs.Vectors as vectors;
 
 use crate::vector_access::{vector_source_width, vector_target_width};
-use align_base::{Cond, VectorOp};
+use insn_ops::{Cond, VectorOp};
 use insn_table::{Insn, Op, Operand};
 
 /// The operations that a step runs alike.

@@ -10,7 +10,7 @@ ghost use Rattle.machine.specs.Spanned.{IsSpanned};
 ghost use Rattle.runs.specs.Run.{run_of};
 ghost use Rattle.machine.specs.Step as steps;
 ghost use Rattle.runs.specs.Stepping.{StepsAs};
-ghost use Rattle.instruction_semantics.specs.Words.{bit};
+ghost use Rattle.insn_semantics.specs.Words.{bit};
 ghost use Rattle.machine.specs.Runnable.{HasRowOf, IsRunnable, IsWidth};
 ghost use Rattle.insn_table.specs.Closed.{IsClosed};
 ghost use Rattle.insn_table.specs.Table.{HasRegisters};
@@ -27,9 +27,10 @@ use crate::operands::{
 use crate::ranges::{are_regs, are_vecs};
 use crate::vector_access::alignment;
 use crate::vectors::{clear_above, control, low_word, written};
-use align_base::{Flags, Memory};
+use insn_ops::Flags;
+use outcomes::Memory;
 use insn_table::{Function, Insn, Op, Operand};
-use lane_ops::{flags, scalar};
+use scalar_ops::{flags, scalar};
 use lane_views::Bytes32;
 use memory_spans::{
     Span, byte_at, copy_spans, load, load_in, put_word, spans_hold_bytes, store, word_in, word_of,
@@ -38,7 +39,7 @@ use memory_spans::{
 use runs::{RunEnd, StepEnd};
 use std::alloc::Global;
 use std::marker::Model;
-use vector_ops::vector;
+use lane_ops::vector;
 
 /// A region of memory: `len` bytes from `base` on, which may be read, and written where `write` is.
 #[derive(Clone, Copy, Debug, PartialEq, Eq)]
@@ -609,7 +610,7 @@ impl State {
     {
         match condition(op) {
             None => Some(false),
-            Some(cond) => lane_ops::holds(cond, &self.flags),
+            Some(cond) => scalar_ops::holds(cond, &self.flags),
         }
     }
 

@@ -1,9 +1,9 @@
 //! Of how many bits the operands of an operation on vectors are in memory, and which addresses it takes.
 ghost use Rattle.std.specs.Prelude.{◌≡◌, ◌≢◌, if◌then◌else◌};
 ghost use Rattle.machine.specs.VectorAccess as vectors;
-ghost use Rattle.vector_semantics.specs.Widths as widths;
+ghost use Rattle.lane_semantics.specs.Widths as widths;
 
-use align_base::{LaneWidth, MoveOp, VectorOp};
+use insn_ops::{LaneWidth, MoveOp, VectorOp};
 use insn_table::Op;
 
 /// The width of the source of an operation on vectors of `w` bits.

@@ -1,7 +1,7 @@
 //! First differences of two states, each worked by hand.
 ghost use Rattle.std.specs.Prelude.{◌≡◌, IfOk, length};
 
-use align_base::Output;
+use insn_ops::Output;
 use lane_views::Bytes32;
 use machine::{Difference, Span, State};
 use std::alloc::Global;

@@ -2,7 +2,7 @@
 ghost use Rattle.std.specs.Prelude.{◌≡◌, IfOk};
 ghost use Rattle.memory_spans.specs.Spans.{contents};
 
-use align_base::Memory;
+use outcomes::Memory;
 use std::alloc::Global;
 
 /// Bytes from an address on.

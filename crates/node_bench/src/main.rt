@@ -6,7 +6,7 @@ mod chain;
 mod environment;
 mod system;
 
-use align_base::Memory;
+use outcomes::Memory;
 use chain::full_sheet;
 use environment::environment;
 use linear_forms::solve;

@@ -2,8 +2,8 @@
 use Rattle.std.proofs.Common.{◌≡◌, ℕ, ◌+◌, ◌<◌, ◌≤◌, ◌==◌, List, [], ◌∷◌, ◌++◌, Bool, true, false, length, refl, sym, ◌∙◌, ap, subst, arith, inl, inr, append_assoc, length-append}
 use Rattle.std.proofs.lemmas.Bool.{cases_Bool}
 use Rattle.std.proofs.lemmas.List.{append-nil}
-use Rattle.instruction_semantics.specs.Exprs as exprs
-use Rattle.instruction_semantics.specs.Words as words
+use Rattle.insn_semantics.specs.Exprs as exprs
+use Rattle.insn_semantics.specs.Words as words
 use Rattle.node_values.specs.declared.node.Node.{Node}
 use Rattle.node_values.specs.declared.node.Node.TheVariants as nodes
 use Rattle.node_values.specs.declared.node.NodeId.{NodeId}

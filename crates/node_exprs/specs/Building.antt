@@ -1,7 +1,7 @@
 -- An expression over words, built into a sheet over nodes: operator by operator, the arguments first, from left to
 -- right, each by the rules.
 use Rattle.std.specs.Prelude.{◌≡◌, ℕ, ◌+◌, ◌^◌, ◌<◌, ◌≤◌, ◌==◌, List, length, if◌then◌else◌}
-use Rattle.instruction_semantics.specs.Exprs as exprs
+use Rattle.insn_semantics.specs.Exprs as exprs
 use Rattle.node_values.specs.declared.node.Node.{Node}
 use Rattle.node_values.specs.declared.node.Node.TheVariants as nodes
 use Rattle.node_values.specs.declared.node.NodeId.{NodeId}

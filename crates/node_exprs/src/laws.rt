@@ -1,6 +1,6 @@
 //! The law of expressions that are built into a sheet. The function does nothing; its contract is the law.
 ghost use Rattle.std.specs.Prelude.{ℕ, ◌<◌, List, length};
-ghost use Rattle.instruction_semantics.specs.Exprs.{Expr};
+ghost use Rattle.insn_semantics.specs.Exprs.{Expr};
 ghost use Rattle.node_exprs.specs.Building.{HasValue, IsFormed, built};
 ghost use Rattle.node_values.specs.Sheets.{IsSheet, width_at};
 ghost use Rattle.node_values.specs.declared.node.Node.{Node};

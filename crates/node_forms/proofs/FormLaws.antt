@@ -5,8 +5,8 @@ use Rattle.std.proofs.lemmas.Bool.{cases_Bool, leb-true}
 use Rattle.std.proofs.lemmas.Nat.{mod_below, mod_low, pow-add, pow_pos}
 use Rattle.std.proofs.Math.Nat.{mod-mod, add-mul-mod_self_left, mod-eq_of_lt}
 use Rattle.std.proofs.Math.Pow.{mod-mod-pow}
-use Rattle.instruction_semantics.specs.Words as words
-use Rattle.instruction_semantics.proofs.WordLaws.{mod-sign_extension, plus-minus, power_grows}
+use Rattle.insn_semantics.specs.Words as words
+use Rattle.insn_semantics.proofs.WordLaws.{mod-sign_extension, plus-minus, power_grows}
 use Rattle.node_values.specs.declared.node.Node.{Node}
 use Rattle.node_values.specs.declared.node.Node.TheVariants.{Const, Reg, Entry, VecByte, Start, Probe, Add, Sub, Mul, And, Or, Xor, Not, Shl, Shr, Sar, Cat, Cut, Sx, Eq, Ult, Slt, If}
 use Rattle.node_values.specs.declared.node.NodeId.{NodeId}

@@ -4,8 +4,8 @@ use Rattle.std.proofs.Common.{◌≡◌, ℕ, zero, suc, ◌+◌, ◌-◌, ◌*�
 use Rattle.std.specs.List.{AllByRecursion}
 use Rattle.std.proofs.lemmas.Bool.{cases_Bool, eqb-false, eqb-true, eq-eqb, ne_eqb}
 use Rattle.std.proofs.lemmas.Nat.{pow_pos}
-use Rattle.instruction_semantics.specs.Words.{minus}
-use Rattle.instruction_semantics.proofs.WordLaws.{power_grows}
+use Rattle.insn_semantics.specs.Words.{minus}
+use Rattle.insn_semantics.proofs.WordLaws.{power_grows}
 use Rattle.node_values.specs.declared.node.Node.{Node}
 use Rattle.node_values.specs.declared.node.NodeId.{NodeId}
 use Rattle.node_values.specs.Sheets.{IsSheet, node_at, width_at}

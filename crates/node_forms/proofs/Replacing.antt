@@ -4,7 +4,7 @@ use Rattle.std.specs.Prelude.{max}
 use Rattle.std.specs.List.{AllByRecursion}
 use Rattle.std.proofs.lemmas.Nat.{pow_pos, mod_below}
 use Rattle.std.proofs.Math.Nat.{mod-eq_of_lt, mul-mod_right}
-use Rattle.instruction_semantics.specs.Words.{plus, minus, times}
+use Rattle.insn_semantics.specs.Words.{plus, minus, times}
 use Rattle.node_values.specs.declared.node.Node.{Node}
 use Rattle.node_values.specs.declared.node.NodeId.{NodeId}
 use Rattle.node_values.specs.Nodes.{node_width}

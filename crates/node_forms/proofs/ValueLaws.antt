@@ -4,8 +4,8 @@ use Rattle.std.specs.Prelude.{nat_le}
 use Rattle.std.proofs.lemmas.Bool.{cases_Bool, leb-true}
 use Rattle.std.proofs.lemmas.Nat.{mod_low}
 use Rattle.std.proofs.Math.Pow.{mod-mod-pow}
-use Rattle.instruction_semantics.specs.Words as words
-use Rattle.instruction_semantics.proofs.WordLaws.{mod-sign_extension, plus-minus}
+use Rattle.insn_semantics.specs.Words as words
+use Rattle.insn_semantics.proofs.WordLaws.{mod-sign_extension, plus-minus}
 use Rattle.node_values.specs.declared.node.Node.{Node}
 use Rattle.node_values.specs.declared.node.Node.TheVariants.{Const, Reg, Entry, VecByte, Start, Probe, Add, Sub, Mul, And, Or, Xor, Not, Shl, Shr, Sar, Cat, Cut, Sx, Eq, Ult, Slt, If}
 use Rattle.node_values.specs.declared.node.NodeId.{NodeId}

@@ -6,7 +6,7 @@ use Rattle.std.proofs.lemmas.Bool.{cases_Bool, eqb-false, eqb-true, le-ltb, lt-l
 use Rattle.std.proofs.Math.Seq.{drop-cons, drop-length, take-length}
 use Rattle.std.proofs.lemmas.List.{set_split, take_more}
 use Rattle.std.proofs.lemmas.Nat.{pow_pos, mod_below}
-use Rattle.instruction_semantics.specs.Words.{plus}
+use Rattle.insn_semantics.specs.Words.{plus}
 use Rattle.node_values.specs.declared.node.NodeId.{NodeId}
 use Rattle.node_forms.specs.Sums.{AreFalling, AreRising, SameWord, top_of, weighted_sum, with_weight}
 use Rattle.node_forms.proofs.Residues.{same_add, same_low, same_number, same_times}

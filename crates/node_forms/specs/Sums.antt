@@ -2,7 +2,7 @@
 use Rattle.std.specs.Prelude.{◌≡◌, ℕ, ◌+◌, ◌*◌, ◌%◌, ◌^◌, ◌<◌, ◌≤◌, ◌==◌, List, [], ◌∷◌, if◌then◌else◌, length, max, nat_lt}
 use Rattle.std.specs.List.{AllByRecursion}
 use Rattle.node_values.specs.declared.node.Node.{Node}
-use Rattle.instruction_semantics.specs.Words.{plus}
+use Rattle.insn_semantics.specs.Words.{plus}
 use Rattle.node_values.specs.declared.node.NodeId.{NodeId}
 use Rattle.node_values.specs.Sheets.{node_at, width_at}
 use Rattle.node_forms.specs.declared.linear.Linear.{Linear}

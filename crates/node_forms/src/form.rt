@@ -6,14 +6,15 @@ ghost use Rattle.node_forms.specs.Forms.{form_at};
 ghost use Rattle.node_forms.specs.Listed.{IsListed, TellsDifference};
 ghost use Rattle.node_forms.specs.Sums.{AreAtoms, AreFalling, AreRising, IsLinear, SameWord, top_of, weighted_sum, with_weight};
 ghost use Rattle.node_forms.specs.Linearity.{linearity};
-ghost use Rattle.instruction_semantics.specs.Words as words;
+ghost use Rattle.insn_semantics.specs.Words as words;
 ghost use Rattle.node_values.specs.Nodes.{AreAlike, AreWordWidths, IsNode};
 ghost use Rattle.node_values.specs.Sheets.{AreWidths, IsSheet, node_at, value_at, width_at};
 ghost use Rattle.node_values.specs.Values.{Environment};
 
 use crate::linear::{Linear, linearity_of};
-use align_base::{Memory, Op};
-use lane_ops::scalar;
+use insn_ops::Op;
+use outcomes::Memory;
+use scalar_ops::scalar;
 use node_values::{Node, NodeId};
 use sqlite_items::Items;
 use std::alloc::Global;

@@ -1,7 +1,7 @@
 //! The value of each node in an environment whose sides differ.
 
 use crate::trial::Trial;
-use align_base::Side::{Left, Right};
+use insn_ops::Side::{Left, Right};
 use lane_views::Bytes32;
 use node_values::{Both, Env, Node, NodeId};
 use sqlite_items::Items;

@@ -4,8 +4,8 @@ use Rattle.std.specs.Prelude.{slice_index, nat_lt, bit_and, bit_or, bit_xor}
 use Rattle.std.specs.List.{AllByRecursion}
 use Rattle.std.proofs.lemmas.Nat.{and_le_l, or_lt, xor_lt, pow_pos, mod_below, shr_below, shr_le, pow-add, pow_below}
 use Rattle.std.proofs.Math.Nat.{mul-le-mul_right}
-use Rattle.instruction_semantics.specs.Words as words
-use Rattle.instruction_semantics.proofs.WordLaws.{power_grows, sign_extension_below}
+use Rattle.insn_semantics.specs.Words as words
+use Rattle.insn_semantics.proofs.WordLaws.{power_grows, sign_extension_below}
 use Rattle.node_values.specs.declared.node.Node.{Node}
 use Rattle.node_values.specs.declared.node.Node.TheVariants.{Const, Reg, Entry, VecByte, Start, Probe, Add, Sub, Mul, And, Or, Xor, Not, Shl, Shr, Sar, Cat, Cut, Sx, Eq, Ult, Slt, If}
 use Rattle.node_values.specs.Nodes.{IsNode, arguments, node_width}

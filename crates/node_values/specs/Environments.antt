@@ -1,7 +1,7 @@
 -- The environment that an `Env` describes.
 use Rattle.std.specs.Prelude.{ℕ, ◌==◌, List, [], ◌∷◌, slice_index, slice_index_or, if◌then◌else◌}
-use Rattle.align_base.specs.declared.status.Side.{Side}
-use Rattle.align_base.specs.declared.status.Side.TheVariants.{Left, Right}
+use Rattle.insn_ops.specs.declared.side.Side.{Side}
+use Rattle.insn_ops.specs.declared.side.Side.TheVariants.{Left, Right}
 use Rattle.node_values.specs.declared.env.Both.{Both}
 use Rattle.node_values.specs.declared.env.Env.{Env}
 use Rattle.node_values.specs.Values.{Environment}

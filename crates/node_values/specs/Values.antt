@@ -1,8 +1,8 @@
 -- The value of a node in an environment: arithmetic modulo 2^w on the values of its arguments, where w is the node's
--- width. The operators are those of the words of `instruction_semantics`.
+-- width. The operators are those of the words of `insn_semantics`.
 use Rattle.std.specs.Prelude.{ℕ, ◌%◌, ◌^◌, bit_and, bit_or, bit_xor, slice_index}
-use Rattle.align_base.specs.declared.status.Side.{Side}
-use Rattle.instruction_semantics.specs.Words as words
+use Rattle.insn_ops.specs.declared.side.Side.{Side}
+use Rattle.insn_semantics.specs.Words as words
 use Rattle.node_values.specs.declared.node.Node.{Node}
 use Rattle.node_values.specs.declared.node.Node.TheVariants.{Const, Reg, Entry, VecByte, Start, Probe, Add, Sub, Mul, And, Or, Xor, Not, Shl, Shr, Sar, Cat, Cut, Sx, Eq, Ult, Slt, If}
 use Rattle.node_values.specs.Nodes.{arguments}

@@ -1,13 +1,13 @@
 //! Environments: what nodes read.
 ghost use Rattle.std.specs.Prelude.{◌≡◌, ℕ, ◌%◌, ◌<◌, ◌^◌, ◌≤◌, length, slice_index};
-ghost use Rattle.align_base.specs.declared.status.Side.{Side};
+ghost use Rattle.insn_ops.specs.declared.side.Side.{Side};
 ghost use Rattle.node_values.specs.Environments.{environment_of, first_byte, of_side};
 ghost use Rattle.node_values.specs.Nodes.{AreWordWidths, IsNode, node_width};
 ghost use Rattle.node_values.specs.Values.{node_value};
 
 use crate::node::Node;
 use crate::operation::{arguments, operate};
-use align_base::Side;
+use insn_ops::Side;
 use lane_views::Bytes32;
 use sqlite_items::Items;
 

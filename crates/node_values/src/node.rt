@@ -1,6 +1,6 @@
 //! Nodes of bit-vector expressions, by their operator and the numbers of their arguments.
 
-use align_base::Side;
+use insn_ops::Side;
 
 /// The number of a node in its sheet.
 #[derive(Clone, Copy, Debug, PartialEq, Eq, PartialOrd, Ord, Hash)]

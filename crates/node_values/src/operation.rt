@@ -1,12 +1,12 @@
 //! The operators, on the values of the arguments.
 ghost use Rattle.std.specs.Prelude.{◌≡◌, ℕ, ◌+◌, ◌<◌, ◌^◌, ◌≤◌, length, slice_index};
-ghost use Rattle.instruction_semantics.specs.Words as words;
+ghost use Rattle.insn_semantics.specs.Words as words;
 ghost use Rattle.node_values.specs.Nodes.{AreWordWidths, IsNode, arguments as argument_list, node_width};
 ghost use Rattle.node_values.specs.Values.{operation};
 
 use crate::node::Node;
-use align_base::Op;
-use lane_ops::scalar;
+use insn_ops::Op;
+use scalar_ops::scalar;
 
 /// The numbers of a node's arguments, in order, and 0 where it has fewer than three.
 pub fn arguments(node: Node) -> [u32; 3]

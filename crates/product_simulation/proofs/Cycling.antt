@@ -1,10 +1,10 @@
 -- Where ranks fall, each cycle advances on both sides.
 use Rattle.std.proofs.Common.{◌≡◌, ℕ, ◌<◌, ◌≤◌, All, Contains, List, [], ◌∷◌, ap, arith}
 use Rattle.std.proofs.lemmas.List.Elements.{All-contains, All-tail}
-use Rattle.products.specs.declared.product.PEdge.{PEdge}
-use Rattle.products.specs.declared.product.Product.{Product}
-use Rattle.products.specs.Cycles.{CyclesAdvance, IsWalk}
-use Rattle.products.specs.Ranks.{LowersRanks, RanksFall, left_rank, right_rank}
+use Rattle.product_automaton.specs.declared.product.PEdge.{PEdge}
+use Rattle.product_automaton.specs.declared.product.Product.{Product}
+use Rattle.product_automaton.specs.Cycles.{CyclesAdvance, IsWalk}
+use Rattle.product_automaton.specs.Ranks.{LowersRanks, RanksFall, left_rank, right_rank}
 
 module _ (edges : List PEdge) (path : PEdge → List ℕ) (rank : ℕ → ℕ)
     (falls : (e : PEdge) → Contains edges e → path e ≡ [] → rank e.to < rank e.from) where

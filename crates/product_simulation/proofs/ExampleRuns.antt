@@ -5,7 +5,7 @@ use Rattle.std.proofs.lemmas.List.Elements.{All-cons, All-nil}
 use Rattle.runs.specs.Equivalent.{AreEquivalent}
 use Rattle.runs.specs.Run.{Run, run_of, stepped}
 use Rattle.runs.specs.declared.ends.RunEnd.TheVariants.{Returned, Running}
-use Rattle.products.specs.Ranks.{HasLowRanks, LowersRanks, RanksFall, longest_path}
+use Rattle.product_automaton.specs.Ranks.{HasLowRanks, LowersRanks, RanksFall, longest_path}
 use Rattle.product_simulation.specs.Examples.{AnyEnd, IsAtEntry, StandingRelated, WaitingRelated, circle_edge, edge_of, endless_step, entry_edge, node_at, quick_step, slow_step, standing_product, waiting_product}
 use Rattle.product_simulation.specs.Leads.{EdgesLead, LeadsOn}
 

@@ -6,10 +6,10 @@ use Rattle.std.proofs.lemmas.List.Elements.{All-contains, All-get_or}
 use Rattle.runs.specs.Run.{Step}
 use Rattle.runs.specs.Path.{Through, Back, way}
 use Rattle.runs.proofs.Paths.{way-back, way-fell, way-through}
-use Rattle.products.specs.declared.product.PEdge.{PEdge}
-use Rattle.products.specs.declared.product.PNode.{PNode}
-use Rattle.products.specs.declared.product.Product.{Product}
-use Rattle.products.specs.Ranks.{HasLowRanks, LowersRanks, RanksFall, left_rank, longest_path, right_rank}
+use Rattle.product_automaton.specs.declared.product.PEdge.{PEdge}
+use Rattle.product_automaton.specs.declared.product.PNode.{PNode}
+use Rattle.product_automaton.specs.declared.product.Product.{Product}
+use Rattle.product_automaton.specs.Ranks.{HasLowRanks, LowersRanks, RanksFall, left_rank, longest_path, right_rank}
 use Rattle.product_simulation.specs.Leads.{BothFault, BothFollow, EdgesLead, LeadsOn, left_next, right_next}
 use Rattle.product_simulation.proofs.Answering.{Move, Along, Home, Fall}
 

@@ -6,8 +6,8 @@ use Rattle.runs.specs.Run.{Run, Step, end_of, run_of}
 use Rattle.runs.specs.declared.ends.RunEnd.{RunEnd}
 use Rattle.runs.specs.declared.ends.RunEnd.TheVariants.{Returned, Faulted, Unset}
 use Rattle.runs.proofs.Runs.{both_returned, faulted_stays, returned_stays, run_by_end}
-use Rattle.products.specs.declared.product.Product.{Product}
-use Rattle.products.specs.Ranks.{RanksFall, bound_of, left_rank, longest_path, right_rank}
+use Rattle.product_automaton.specs.declared.product.Product.{Product}
+use Rattle.product_automaton.specs.Ranks.{RanksFall, bound_of, left_rank, longest_path, right_rank}
 use Rattle.product_simulation.specs.Leads.{EdgesLead}
 use Rattle.product_simulation.specs.Pace.{KeepsPace}
 use Rattle.product_simulation.proofs.Answering.{Answers, FaultsBy, ReturnsAs, simulation}

@@ -1,9 +1,9 @@
 -- Two small products, which show what the premises of the law are for. A state is the place where it stands.
 use Rattle.std.specs.Prelude.{◌≡◌, ℕ, zero, suc, List, [], ◌∷◌}
 use Rattle.runs.specs.Run.{Step, Goes, Returns}
-use Rattle.products.specs.declared.product.PEdge.{PEdge}
-use Rattle.products.specs.declared.product.PNode.{PNode}
-use Rattle.products.specs.declared.product.Product.{Product}
+use Rattle.product_automaton.specs.declared.product.PEdge.{PEdge}
+use Rattle.product_automaton.specs.declared.product.PNode.{PNode}
+use Rattle.product_automaton.specs.declared.product.Product.{Product}
 
 -- returns by its first step
 abbrev pub quick_step : ℕ → Step ℕ

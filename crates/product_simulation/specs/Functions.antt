@@ -1,12 +1,12 @@
 -- Functions of the machine: their steps, ways on between two of them, and their equivalence.
 use Rattle.std.specs.Prelude.{ℕ, Bool, List}
-use Rattle.align_base.specs.declared.output.Output.{Output}
+use Rattle.insn_ops.specs.declared.output.Output.{Output}
 use Rattle.insn_table.specs.declared.insn.Function.{Function}
 use Rattle.machine.specs.Machine.{Machine}
 use Rattle.machine.specs.Step.{step_of}
 use Rattle.runs.specs.Equivalent.{AreEquivalent}
 use Rattle.runs.specs.Run.{Step}
-use Rattle.products.specs.declared.product.Product.{Product}
+use Rattle.product_automaton.specs.declared.product.Product.{Product}
 use Rattle.product_simulation.specs.Leads.{EdgesLead}
 use Rattle.product_simulation.specs.Related.{AreRelated, IsStartWhere, SameEndAt, Scratch}
 

@@ -3,9 +3,9 @@
 use Rattle.std.specs.Prelude.{◌≡◌, ◌≢◌, ◌⊎◌, ℕ, ◌==◌, ◌<◌, Contains, List, length, Option, None, option_map, slice_get, if◌then◌else◌}
 use Rattle.runs.specs.Run.{Step}
 use Rattle.runs.specs.Path.{Way, Through, Back, Fell, way}
-use Rattle.products.specs.declared.product.PEdge.{PEdge}
-use Rattle.products.specs.declared.product.PNode.{PNode}
-use Rattle.products.specs.declared.product.Product.{Product}
+use Rattle.product_automaton.specs.declared.product.PEdge.{PEdge}
+use Rattle.product_automaton.specs.declared.product.PNode.{PNode}
+use Rattle.product_automaton.specs.declared.product.Product.{Product}
 
 -- the left place of the node of this number
 abbrev pub left_place : List PNode → ℕ → Option ℕ

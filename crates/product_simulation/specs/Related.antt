@@ -1,10 +1,10 @@
 -- When two states of the machine are related at a node of a product.
 use Rattle.std.specs.Prelude.{◌≡◌, ℕ, zero, suc, ◌^◌, ◌<◌, Bool, true, List, Some}
-use Rattle.align_base.specs.declared.output.Output.{Output}
+use Rattle.insn_ops.specs.declared.output.Output.{Output}
 use Rattle.machine.specs.Difference.{SameEnd, is_in_scratch}
 use Rattle.machine.specs.Machine.{IsStart, IsState, Machine}
-use Rattle.products.specs.declared.product.PNode.{PNode}
-use Rattle.products.specs.declared.product.Product.{Product}
+use Rattle.product_automaton.specs.declared.product.PNode.{PNode}
+use Rattle.product_automaton.specs.declared.product.Product.{Product}
 use Rattle.product_simulation.specs.Leads.{left_place, right_place}
 
 -- the scratch lines, each its base and its length, by the entry registers

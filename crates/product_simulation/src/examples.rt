@@ -1,7 +1,7 @@
 //! Laws of two small products, which show what the premises of the simulation are for.
 ghost use Rattle.std.specs.Prelude.{ℕ, [], ◌∷◌};
 ghost use Rattle.runs.specs.Equivalent.{AreEquivalent};
-ghost use Rattle.products.specs.Ranks.{RanksFall, bound_of, longest_path};
+ghost use Rattle.product_automaton.specs.Ranks.{RanksFall, bound_of, longest_path};
 ghost use Rattle.product_simulation.specs.Examples.{AnyEnd, IsAtEntry, StandingRelated, WaitingRelated, circle_edge, endless_step, entry_edge, quick_step, slow_step, standing_product, waiting_product};
 ghost use Rattle.product_simulation.specs.Leads.{EdgesLead};
 

@@ -4,20 +4,20 @@ ghost use Rattle.insn_table.specs.declared.insn.Function.{Function};
 ghost use Rattle.machine.specs.Machine.{Machine};
 ghost use Rattle.runs.specs.Path.{Fell, way};
 ghost use Rattle.runs.specs.Run.{Step};
-ghost use Rattle.products.specs.declared.product.PEdge.{PEdge};
-ghost use Rattle.products.specs.declared.product.Product.{Product};
-ghost use Rattle.products.specs.Bounds.{composed_bound, joined_bound};
-ghost use Rattle.products.specs.Cycles.{CyclesAdvance};
-ghost use Rattle.products.specs.Ranks.{RanksFall, bound_of};
+ghost use Rattle.product_automaton.specs.declared.product.PEdge.{PEdge};
+ghost use Rattle.product_automaton.specs.declared.product.Product.{Product};
+ghost use Rattle.product_automaton.specs.Bounds.{composed_bound, joined_bound};
+ghost use Rattle.product_automaton.specs.Cycles.{CyclesAdvance};
+ghost use Rattle.product_automaton.specs.Ranks.{RanksFall, bound_of};
 ghost use Rattle.product_simulation.specs.Chains.{AreLinked, Link, bounds_of, last_of};
 ghost use Rattle.product_simulation.specs.Leads.{IsWayOn, left_next, right_next};
 ghost use Rattle.product_simulation.specs.Pace.{KeepsPace};
 ghost use Rattle.product_simulation.specs.Functions.{EquivalentFunctions, ProductLeads, function_step};
 ghost use Rattle.product_simulation.specs.Related.{IsStartWhere, SameEndAt, Scratch};
 
-use align_base::Output;
+use insn_ops::Output;
 use insn_table::Function;
-use products::Product;
+use product_automaton::Product;
 
 /// The law of the product simulation. Where ranks fall and each two related states have a way on,
 /// the two functions are equivalent within the bound of the product, with any live outputs and any

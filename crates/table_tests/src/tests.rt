@@ -1,5 +1,6 @@
 //! Each public call of `insn_table` once, and the kinds and ranges of operands, in tables.
-use align_base::{LaneOp, LaneWidth, MoveOp, VectorOp, Word};
+use align_base::Word;
+use insn_ops::{LaneOp, LaneWidth, MoveOp, VectorOp};
 use insn_table::{
     BuildError, Cond, Function, FunctionBuilder, Insn, Misfit, Op, Operand, Shape, Statement,
     assemble_function, fits, look_up,

@@ -3,7 +3,7 @@ use Rattle.std.proofs.Common.{◌≡◌, ℕ, zero, suc, ◌+◌, ◌-◌, ◌^�
 use Rattle.std.specs.Prelude.{is_some, nat_le, unwrap_or}
 use Rattle.std.proofs.lemmas.Bool.{cases_Bool, cond_both, eq-eqb, eqb-true, leb-true}
 use Rattle.std.proofs.lemmas.Nat.{mod_below, pow_pos}
-use Rattle.instruction_semantics.specs.Words.{cut}
+use Rattle.insn_semantics.specs.Words.{cut}
 use Rattle.node_values.specs.declared.node.Node.{Node}
 use Rattle.node_values.specs.declared.node.Node.TheVariants.{Const, Reg, Entry, VecByte, Start, Probe, Add, Sub, Mul, And, Or, Xor, Not, Shl, Shr, Sar, Cat, Cut, Sx, Eq, Ult, Slt, If}
 use Rattle.node_values.specs.declared.node.NodeId.{NodeId}

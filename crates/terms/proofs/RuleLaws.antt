@@ -5,8 +5,8 @@ use Rattle.std.specs.List.{AllByRecursion, list_all}
 use Rattle.std.specs.Int.Bits.{and_self, and_zero_r, or_self, or_zero_r, xor_self, xor_zero_r}
 use Rattle.std.proofs.lemmas.Bool.{cond_both, eqb-true}
 use Rattle.std.proofs.lemmas.Nat.{and_comm, or_comm, xor_comm, pow_pos}
-use Rattle.instruction_semantics.specs.Words as words
-use Rattle.instruction_semantics.proofs.WordLaws.{minus_self}
+use Rattle.insn_semantics.specs.Words as words
+use Rattle.insn_semantics.proofs.WordLaws.{minus_self}
 use Rattle.node_values.specs.declared.node.Node.{Node}
 use Rattle.node_values.specs.declared.node.Node.TheVariants.{Const, Reg, Entry, VecByte, Start, Probe, Add, Sub, Mul, And, Or, Xor, Not, Shl, Shr, Sar, Cat, Cut, Sx, Eq, Ult, Slt, If}
 use Rattle.node_values.specs.declared.node.NodeId.{NodeId}

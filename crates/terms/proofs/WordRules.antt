@@ -5,7 +5,7 @@ use Rattle.std.proofs.lemmas.Bool.{cond_both, le-ltb}
 use Rattle.std.proofs.lemmas.Nat.{and_mask, field_of, mod_low, mod-pow-add, pow-add, shr_high}
 use Rattle.std.proofs.lemmas.Bool.Decides.{nat_tests}
 use Rattle.std.proofs.Math.Nat.{add-mod_right, div-div-eq-div-mul, mod-eq_of_lt}
-use Rattle.instruction_semantics.specs.Words.{plus, minus, times, cut, concatenation, choice, equal, below, bit}
+use Rattle.insn_semantics.specs.Words.{plus, minus, times, cut, concatenation, choice, equal, below, bit}
 use Rattle.node_forms.proofs.ValueLaws.{low_of_low}
 
 pub plus_zero : (w a : ℕ) → a < 2 ^ w → plus w a 0 ≡ a

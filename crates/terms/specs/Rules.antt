@@ -13,7 +13,7 @@
 -- 8. Of the arguments of a sum, product, `and`, `or`, `xor` and `eq` the one with the lower number stands first.
 use Rattle.std.specs.Prelude.{ℕ, ◌+◌, ◌-◌, ◌^◌, ◌==◌, Bool, false, ◌&&◌, List, [], ◌∷◌, Option, Some, None, is_some, nat_le, slice_index, unwrap_or, if◌then◌else◌}
 use Rattle.std.specs.List.{list_all}
-use Rattle.instruction_semantics.specs.Words.{bit, cut}
+use Rattle.insn_semantics.specs.Words.{bit, cut}
 use Rattle.node_values.specs.declared.node.Node.{Node}
 use Rattle.node_values.specs.declared.node.Node.TheVariants.{Const, Start, Add, Sub, Mul, And, Or, Xor, Cat, Cut, Eq, Ult, Slt, If}
 use Rattle.node_values.specs.declared.node.NodeId.{NodeId}

@@ -1,7 +1,7 @@
 //! What is to be shown of a sheet: that hypotheses lead to a goal.
 
 use crate::sheet::Sheet;
-use align_base::Side;
+use insn_ops::Side;
 use node_values::NodeId;
 
 /// How the addresses of two accesses lie to each other.

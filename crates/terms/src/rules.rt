@@ -10,8 +10,9 @@ ghost use Rattle.terms.specs.Made.{IsEquality};
 ghost use Rattle.terms.specs.Rules as rules;
 ghost use Rattle.terms.specs.Sheet.{IsWidthList};
 
-use align_base::{Memory, Op};
-use lane_ops::scalar;
+use insn_ops::Op;
+use outcomes::Memory;
+use scalar_ops::scalar;
 use node_forms::{constant_difference, number};
 use node_values::{Node, NodeId, arguments, operate, width};
 use std::alloc::Global;

@@ -13,7 +13,7 @@ ghost use Rattle.terms.specs.Made.{GrowsInRoom, IsEquality, made, placed};
 ghost use Rattle.terms.specs.declared.rules.Reduced.TheVariants as reductions;
 
 use crate::rules::{Reduced, reduce};
-use align_base::Memory;
+use outcomes::Memory;
 use indexmap::IndexSet;
 use node_forms::{Form, form_of};
 use node_values::{Env, Node, NodeId, width};

@@ -8,7 +8,7 @@ ghost use Rattle.test_states.specs.declared.range.Range.{Range};
 ghost use Rattle.test_states.specs.Ranges.{AreApart, IsRange, is_covered};
 
 use crate::range::Range;
-use align_base::Memory;
+use outcomes::Memory;
 use machine::Region;
 use std::alloc::Global;
 

@@ -1,7 +1,7 @@
 //! Why a test has no start state.
 ghost use Rattle.std.specs.Prelude.{◌≡◌};
 
-use align_base::Memory;
+use outcomes::Memory;
 use thiserror::Error;
 
 /// The first reason for which a test has no start state under an admission.

@@ -5,7 +5,7 @@ ghost use Rattle.test_states.specs.Naming.{named_or};
 ghost use Rattle.test_states.specs.Ranges.{AreApart, IsRange, IsSpanOf, is_covered, range_has};
 
 use crate::range::Range;
-use align_base::Memory;
+use outcomes::Memory;
 use machine::Span;
 use std::alloc::Global;
 

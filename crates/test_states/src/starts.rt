@@ -15,7 +15,7 @@ use crate::ranges::ranges_of;
 use crate::refusal::LoadRefusal;
 use crate::spans::spans_of;
 use admission::Admission;
-use align_base::Memory;
+use outcomes::Memory;
 use machine::{Region, State};
 use std::alloc::Global;
 use tests_text::Test;

@@ -1,6 +1,6 @@
 -- Single steps of the code's loops: what is read so far, and what is left.
 use Rattle.std.proofs.Common.{◌≡◌, ℕ, suc, ◌+◌, ◌-◌, ◌/◌, ◌<◌, ◌≤◌, List, [], ◌∷◌, ◌++◌, length, get_or, set, take, drop, Result, Ok, Err, refl, sym, ap, ◌∙◌, subst, append_assoc, append-nil, arith}
-use Rattle.align_base.specs.Firsts.{◌>>=◌}
+use Rattle.outcomes.specs.Firsts.{◌>>=◌}
 use Rattle.serde_json.specs.Data.{Data, Items, item, no_items}
 use Rattle.tests_text.specs.declared.refusal.TestRefusal.{TestRefusal}
 use Rattle.tests_text.specs.declared.refusal.TestRefusal.TheVariants.{BadShape, Memory, NotJson, TooMany, TooManyBytes}

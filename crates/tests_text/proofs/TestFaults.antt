@@ -3,8 +3,8 @@ use Rattle.std.proofs.Common.{◌≡◌, ◌≢◌, ℕ, ◌+◌, ◌-◌, ◌^�
 use Rattle.std.specs.Str.{IsUtf8}
 use Rattle.std.proofs.lemmas.Bool.{both_ways, ltb-true, ltb-false, lt-ltb, le-ltb, cases_lt}
 use Rattle.std.proofs.lemmas.Option.{same_Some}
-use Rattle.align_base.specs.Firsts.{◌>>=◌, HasFault, IsFirst}
-use Rattle.align_base.proofs.FirstFaults.{AreAll, ComesFirst, IsItem, IsOutcome, fault-none, first-once, outcome-then}
+use Rattle.outcomes.specs.Firsts.{◌>>=◌, HasFault, IsFirst}
+use Rattle.outcomes.proofs.FirstFaults.{AreAll, ComesFirst, IsItem, IsOutcome, fault-none, first-once, outcome-then}
 use Rattle.lane_views.specs.declared.Bytes32.{Bytes32}
 use Rattle.serde_json.specs.Data.{Data, Items, array, item, no_items}
 use Rattle.serde_json.specs.Find.{as_array, get}

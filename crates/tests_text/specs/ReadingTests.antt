@@ -1,6 +1,6 @@
 -- What the code reads of tests, and of a file of them, up to the first fault.
 use Rattle.std.specs.Prelude.{ℕ, ◌+◌, nat_lt, if◌then◌else◌, List, [], ◌∷◌, Option, Some, None, Result, Ok, Err}
-use Rattle.align_base.specs.Firsts.{◌>>=◌}
+use Rattle.outcomes.specs.Firsts.{◌>>=◌}
 use Rattle.lane_views.specs.declared.Bytes32.{Bytes32}
 use Rattle.serde_json.specs.Data.{Data, Items, item, no_items}
 use Rattle.tests_text.specs.declared.refusal.TestRefusal.{TestRefusal}

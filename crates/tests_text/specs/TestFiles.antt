@@ -1,7 +1,7 @@
 -- Whole files of tests, and why a file is none: its first fault.
 use Rattle.std.specs.Prelude.{◌≡◌, ◌≢◌, ◌⊎◌, ℕ, ◌+◌, ◌<◌, ◌≤◌, true, List, [], ◌∷◌, ◌++◌, length, Some, Result, Ok, Err, codes}
 use Rattle.std.specs.Str.{IsUtf8}
-use Rattle.align_base.specs.Firsts.{HasFault, IsFirst}
+use Rattle.outcomes.specs.Firsts.{HasFault, IsFirst}
 use Rattle.serde_json.specs.Data.{Data, Items, array, item, no_items}
 use Rattle.serde_json.specs.Find.{get}
 use Rattle.serde_json.specs.Read.{read}

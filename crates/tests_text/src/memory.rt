@@ -7,7 +7,7 @@ ghost use Rattle.tests_text.specs.Shapes.{addressed};
 use crate::hex::{byte_at, is_hex_text};
 use crate::shape::{Kind, is_object};
 use admission::Items;
-use align_base::Memory;
+use outcomes::Memory;
 use serde_json::Value;
 use std::alloc::Global;
 

@@ -1,7 +1,7 @@
 //! Why a file is no file of tests.
 ghost use Rattle.std.specs.Prelude.{◌≡◌};
 
-use align_base::Memory;
+use outcomes::Memory;
 use thiserror::Error;
 
 /// The first fault of a file of tests. Tests are counted from 1.

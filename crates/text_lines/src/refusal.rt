@@ -2,7 +2,7 @@
 ghost use Rattle.std.specs.Prelude.{◌≡◌, ◌-◌, ◌^◌, min};
 ghost use Rattle.text_lines.specs.declared.refusal.ReadKind.TheVariants.{Memory};
 
-use align_base::Memory;
+use outcomes::Memory;
 use std::alloc::AllocFailed;
 use thiserror::Error;
 

@@ -4,7 +4,7 @@ ghost use Rattle.flow_graph.specs.Flows.{IsHead};
 ghost use Rattle.machine.specs.Kept.{pure_of};
 ghost use Rattle.tracer.specs.Recording.{HasRegisters, HasVectors, Records, Shows};
 
-use align_base::Memory;
+use outcomes::Memory;
 use flow_graph::Graph;
 use lane_views::Bytes32;
 use machine::State;

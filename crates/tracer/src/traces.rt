@@ -2,7 +2,7 @@
 ghost use Rattle.std.specs.Prelude.{◌≡◌};
 
 use crate::recording::Visit;
-use align_base::Memory;
+use outcomes::Memory;
 use machine::RunEnd;
 use thiserror::Error;
 

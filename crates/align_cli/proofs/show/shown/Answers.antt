@@ -1,5 +1,5 @@
 use Rattle.std.proofs.Common.{[], inl, refl}
-use Rattle.align_base.specs.declared.status.Side.TheVariants.{Left}
+use Rattle.insn_ops.specs.declared.side.Side.TheVariants.{Left}
 use Rattle.align_base.specs.declared.status.Status.TheVariants as status
 use Rattle.command_line.specs.Command.{Show}
 use Rattle.command_line.specs.View.{function_view}

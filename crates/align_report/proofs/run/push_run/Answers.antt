@@ -1,5 +1,5 @@
 use Rattle.std.proofs.Common.{◌≡◌, ℕ, ◌<◌, ◌^◌, ◌++◌, List, string_bytes, sym, ◌∙◌, ap, subst}
-use Rattle.align_base.specs.declared.output.Output.{Output}
+use Rattle.insn_ops.specs.declared.output.Output.{Output}
 use Rattle.runs.specs.Run.{run_of}
 use Rattle.runs.specs.declared.ends.RunEnd.{RunEnd}
 use Rattle.machine.specs.Frame.{SameUnwritable}

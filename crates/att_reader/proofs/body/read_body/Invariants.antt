@@ -1,7 +1,7 @@
 use Rattle.std.proofs.Common.{◌≡◌, map, take, drop, length}
 use Rattle.std.specs.List.{count_by}
 use Rattle.text_lines.specs.Views.{seen}
-use Rattle.function_body.specs.Body.{is_code}
+use Rattle.att_bodies.specs.Body.{is_code}
 use Rattle.att_reader.specs.Reading.{body_in, body_from}
 use Rattle.att_reader.proofs.body.read_body.Given as goal
 

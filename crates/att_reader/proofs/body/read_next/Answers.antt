@@ -1,7 +1,7 @@
 use Rattle.std.proofs.Common.{take}
 use Rattle.std.proofs.lemmas.Result.{err_from_is_err_and}
 use Rattle.text_lines.specs.Views.{seen}
-use Rattle.function_body.specs.Labelled.{labelled}
+use Rattle.att_bodies.specs.Labelled.{labelled}
 use Rattle.att_reader.proofs.LoopSteps.{next-stops}
 use Rattle.att_reader.proofs.body.read_next.Goals as goal
 

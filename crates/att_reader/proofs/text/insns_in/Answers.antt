@@ -4,7 +4,7 @@ use Rattle.insn_table.specs.declared.insn.Insn.{Insn}
 use Rattle.text_lines.specs.declared.refusal.ReadKind.TheVariants.{NoFunction, FallsOff}
 use Rattle.text_lines.specs.declared.refusal.ReadRefusal.{ReadRefusal}
 use Rattle.text_lines.specs.Views.{seen}
-use Rattle.function_body.specs.Reading.{leaves}
+use Rattle.att_bodies.specs.Reading.{leaves}
 use Rattle.att_reader.specs.Reading.{told, insns_of_text}
 use Rattle.att_reader.proofs.LoopSteps.{refused-is, whole-missing, whole-stops, whole-closed, whole-open}
 use Rattle.att_reader.proofs.text.insns_in.Goals as goal

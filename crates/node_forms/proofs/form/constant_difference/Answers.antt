@@ -5,8 +5,8 @@ use Rattle.std.proofs.lemmas.Bool.{true≢false}
 use Rattle.node_values.specs.declared.node.NodeId.{NodeId}
 use Rattle.node_values.specs.Sheets.{width_at}
 use Rattle.node_values.proofs.SheetLaws.{width_ranged}
-use Rattle.instruction_semantics.specs.Words.{minus}
-use Rattle.instruction_semantics.proofs.WordLaws.{power_grows}
+use Rattle.insn_semantics.specs.Words.{minus}
+use Rattle.insn_semantics.proofs.WordLaws.{power_grows}
 use Rattle.node_forms.specs.Gathering.{AreParts}
 use Rattle.node_forms.specs.Listed.{TellsDifference}
 use Rattle.node_forms.specs.Sums.{IsLinear, IsWide, SameWord, weighted_sum, with_weight}

@@ -2,7 +2,7 @@ use Rattle.std.proofs.Common.{◌≡◌, ℕ, ◌+◌, ◌*◌, ◌<◌, ◌≤�
 use Rattle.node_values.specs.declared.node.NodeId.{NodeId}
 use Rattle.node_values.specs.Sheets.{value_at}
 use Rattle.node_values.proofs.SheetLaws.{width_ranged}
-use Rattle.instruction_semantics.proofs.WordLaws.{power_grows}
+use Rattle.insn_semantics.proofs.WordLaws.{power_grows}
 use Rattle.node_forms.specs.Gathering.{AreParts}
 use Rattle.node_forms.specs.Sums.{IsLinear, SameWord, weighted_sum}
 use Rattle.node_forms.proofs.Gathered.{atoms_some, coefficients_of_node, constant_of_node}

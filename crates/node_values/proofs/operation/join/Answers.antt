@@ -1,7 +1,7 @@
 use Rattle.std.proofs.Common.{◌≡◌, ◌+◌, ◌*◌, ◌%◌, ◌^◌, ◌<◌, ◌≤◌, arith, ap}
 use Rattle.std.proofs.Math.Nat.{mod-eq_of_lt}
-use Rattle.instruction_semantics.specs.Words as words
-use Rattle.instruction_semantics.proofs.WordLaws.{power_grows}
+use Rattle.insn_semantics.specs.Words as words
+use Rattle.insn_semantics.proofs.WordLaws.{power_grows}
 use Rattle.node_values.proofs.NodeLaws.{joined_below}
 use Rattle.node_values.proofs.operation.join.Goals as goal
 

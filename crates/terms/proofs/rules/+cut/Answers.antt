@@ -1,7 +1,7 @@
 use Rattle.std.proofs.Common.{◌≡◌, ◌/◌, ◌%◌, ◌^◌, ◌≤◌, Some, None, sym, ◌∙◌, ap, arith, div-one}
 use Rattle.std.specs.Prelude.{slice_index, unwrap_or}
 use Rattle.std.proofs.lemmas.Nat.{shr_le}
-use Rattle.instruction_semantics.proofs.WordLaws.{power_grows}
+use Rattle.insn_semantics.proofs.WordLaws.{power_grows}
 use Rattle.node_values.specs.declared.node.Node.TheVariants.{Const}
 use Rattle.terms.specs.declared.rules.Reduced.TheVariants.{New}
 use Rattle.terms.specs.Rules.{number_at}

@@ -1,5 +1,5 @@
 use Rattle.std.proofs.Common.{◌∙◌, ap, subst}
-use Rattle.instruction_semantics.specs.FlagRules.{flags_after}
+use Rattle.insn_semantics.specs.FlagRules.{flags_after}
 use Rattle.machine.specs.Kept.{IsKept, Kept, pure_of}
 use Rattle.machine.specs.declared.operands.Family.TheVariants.{Computing}
 use Rattle.machine.proofs.Allowed.{target_spanned}

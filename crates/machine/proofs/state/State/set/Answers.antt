@@ -1,5 +1,5 @@
 use Rattle.std.proofs.Common.{◌≡◌, ◌∙◌, ap, sym, subst}
-use Rattle.instruction_semantics.specs.Words.{bit}
+use Rattle.insn_semantics.specs.Words.{bit}
 use Rattle.machine.specs.Ready.{finished_row}
 use Rattle.machine.specs.Kept.{IsKept, Kept, pure_of}
 use Rattle.machine.specs.declared.operands.Family.TheVariants.{Setting}

@@ -1,6 +1,0 @@
-use Rattle.lane_ops.proofs.Masks.{mask_is}
-use Rattle.std.proofs.Common.{arith}
-use Rattle.lane_ops.proofs.words.mask.Goals as goal
-
-pub returns : goal.returns
-returns c = mask_is c.args.width (omega arith)

@@ -1,0 +1,20 @@
+//! The error of a call that found no memory.
+use std::alloc::{AllocError, AllocFailed};
+use thiserror::Error;
+
+/// Out of memory.
+#[derive(Clone, Copy, Debug, PartialEq, Eq, Error)]
+#[error("out of memory")]
+pub struct Memory;
+
+impl From<AllocError> for Memory {
+    fn from(_error: AllocError) -> Memory {
+        Memory
+    }
+}
+
+impl<T: Drop> From<AllocFailed<T>> for Memory {
+    fn from(_failed: AllocFailed<T>) -> Memory {
+        Memory
+    }
+}

@@ -1,5 +1,0 @@
-//! Tests of `products`, which stand here so that the crate is proved once.
-#![tactic(auto)]
-
-#[cfg(test)]
-mod tests;

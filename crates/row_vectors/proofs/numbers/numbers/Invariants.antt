@@ -1,6 +1,0 @@
-use Rattle.std.proofs.Common.{◌≡◌, Some, map, take}
-use Rattle.row_vectors.specs.Numbers.{all_values, number_of}
-use Rattle.row_vectors.proofs.numbers.numbers.Given as goal
-
-abbrev pub invariant-loop-word : goal.invariant-loop-word
-invariant-loop-word l = all_values (map (λ x. number_of x.now) (take l.word-index l.word-items)) ≡ Some l.numbers.items

@@ -1,6 +1,0 @@
-use Rattle.std.proofs.Common.{drop, map}
-use Rattle.row_vectors.proofs.Tallies.{CountsTo}
-use Rattle.row_vectors.proofs.tally.tally.Given as goal
-
-abbrev pub invariant-loop-line : goal.invariant-loop-line
-invariant-loop-line l = CountsTo l.counts.wrong (map (λ x. x.now) (drop l.line-index l.line-items)) (map (λ x. x.now) l.line-items)

@@ -1,4 +1,0 @@
-pub mod Inside
-pub mod LaneSums
-pub mod Turns
-pub mod WordSteps

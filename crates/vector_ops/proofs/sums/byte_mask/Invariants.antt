@@ -1,7 +1,0 @@
-use Rattle.std.proofs.Common.{◌≡◌, ◌^◌, ◌<◌}
-use Rattle.lane_views.specs.Lanes.{lane}
-use Rattle.vector_semantics.specs.Sources.{tops}
-use Rattle.vector_ops.proofs.sums.byte_mask.Given as goal
-
-abbrev pub invariant-loop-k : goal.invariant-loop-k
-invariant-loop-k l = (l.mask ≡ tops (λ j. lane 8 j l.bytes.bytes) l.k) × (l.mask < 2 ^ l.k)

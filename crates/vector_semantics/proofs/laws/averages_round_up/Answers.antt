@@ -1,5 +1,0 @@
-use Rattle.vector_semantics.proofs.RowLaws.{pavg_is}
-use Rattle.vector_semantics.proofs.laws.averages_round_up.Goals as goal
-
-pub returns : goal.returns
-returns c = pavg_is

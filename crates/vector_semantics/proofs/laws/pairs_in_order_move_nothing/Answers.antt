@@ -1,5 +1,0 @@
-use Rattle.vector_semantics.proofs.RowLaws.{pshufd_in_order}
-use Rattle.vector_semantics.proofs.laws.pairs_in_order_move_nothing.Goals as goal
-
-pub returns : goal.returns
-returns c = pshufd_in_order
