@@ -18,7 +18,7 @@ mod meaning;
 mod pair;
 
 pub use admission::{Admission, Need, RegionLine, Rel};
-pub use insn_ops::Output;
 pub use expr::{Expr, Term};
+pub use insn_ops::Output;
 pub use items::Items;
 pub use pair::Pair;

@@ -3,8 +3,8 @@
 #![tactic(auto)]
 
 use align_base::{FolderShelf, OpenGate, OutSink, Status, Word};
-use outcomes::Memory;
 use align_cli::align_main;
+use outcomes::Memory;
 use std::alloc::Global;
 use std::process::ExitCode;
 use std::rt::Env;

@@ -17,8 +17,8 @@ use crate::report;
 use crate::report::Ending;
 use crate::sums::{rax_sum, telling_registers};
 use align_base::{Shelf, Status};
-use insn_ops::Side;
 use command_line::FunctionArguments;
+use insn_ops::Side;
 use insn_table::Function;
 use std::alloc::{AllocError, Global};
 

@@ -3,8 +3,8 @@ ghost use Rattle.std.specs.Prelude.{◌≡◌, ◌<◌, ◌++◌, length, slice_
 ghost use Rattle.align_cli.specs.Report.{admission_refusal, test_named, tests_named, tests_refusal, different_report, equivalent_report, differs_line, kind_name, large_refusal, line_refusal, named_refusal, register_line, register_lines, register_names, returned_line, side_name, unplain_refusal, usage_text, value_text};
 
 use admission_text::AdmitRefusal;
-use insn_ops::Side;
 use att_reader::{ReadKind, ReadRefusal};
+use insn_ops::Side;
 use std::alloc::{AllocError, Global};
 use tests_text::TestRefusal;
 

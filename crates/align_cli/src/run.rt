@@ -9,9 +9,9 @@ ghost use Rattle.align_cli.specs.View.{run_command};
 use crate::answer::{Answer, Interruption};
 use crate::files::{Taken, admission_in, function_in, tests_in};
 use align_base::{Shelf, Status};
-use insn_ops::Side;
 use align_report::run_text;
 use command_line::RunArguments;
+use insn_ops::Side;
 use std::alloc::Global;
 
 /// Takes and reads the function, the admission and the tests, in this order, and runs the function

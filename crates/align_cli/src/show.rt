@@ -9,9 +9,9 @@ ghost use Rattle.align_cli.specs.View.{show_command};
 use crate::answer::{Answer, Interruption};
 use crate::files::{Taken, function_in};
 use align_base::{Shelf, Status};
-use insn_ops::Side;
 use command_line::FunctionArguments;
 use flow_graph::graph;
+use insn_ops::Side;
 use insn_text::show_text;
 use std::alloc::Global;
 

@@ -11,9 +11,9 @@ ghost use Rattle.align_report.specs.Telling.{AppendsTest};
 use crate::changes::push_changes;
 use crate::outputs::push_outputs;
 use admission::Admission;
-use outcomes::Memory;
 use insn_table::Function;
 use machine::{RunEnd, State, step_frame_law};
+use outcomes::Memory;
 use std::alloc::{AllocError, Global};
 use test_states::{LoadRefusal, Test, Tests, address_ranges, load};
 

@@ -9,8 +9,8 @@ ghost use Rattle.att_bodies.specs.Reading.{target_of};
 ghost use Rattle.att_reader.specs.Answers.{UnlessMemory, Gives};
 ghost use Rattle.att_reader.specs.Reading.{told, listed, single, insn_on, item_in, body_in, Grows};
 
-use att_statements::statement;
 use att_bodies::{BodyLabels, is_data, is_directive};
+use att_statements::statement;
 use insn_table::{Insn, Insns};
 use std::alloc::Global;
 use text_lines::{Item, ReadKind, ReadRefusal, saturated};

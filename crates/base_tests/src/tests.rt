@@ -1,6 +1,9 @@
 //! Each public call of `align_base` once, with ample memory. Calls of shelves and sinks stand in
 //! tables, which small functions without contracts go over: so a test has few facts to carry.
-use align_base::{FolderShelf, Gate, GiveFault, MemShelf, MemSink, OpenGate, OutSink, PutFault, Shelf, Sink, Status, SureShelf, SureSink, TakeFault, Word};
+use align_base::{
+    FolderShelf, Gate, GiveFault, MemShelf, MemSink, OpenGate, OutSink, PutFault, Shelf, Sink,
+    Status, SureShelf, SureSink, TakeFault, Word,
+};
 use clauses::{Clause, Lit};
 use outcomes::Memory;
 use std::alloc::Global;

@@ -1,8 +1,8 @@
 //! One case: a command over files in memory, and how it has to end.
 use crate::fields::spelled;
 use align_base::{MemShelf, MemSink, OpenGate, Word};
-use outcomes::Memory;
 use align_cli::align_main;
+use outcomes::Memory;
 use std::alloc::Global;
 use std::thread::Threads;
 

@@ -6,8 +6,8 @@
 mod case;
 mod fields;
 
-use outcomes::Memory;
 use case::Outcome;
+use outcomes::Memory;
 use std::io;
 use std::io::{BufRead, BufReader};
 

@@ -11,10 +11,10 @@ ghost use Rattle.command_line.specs.declared.command.Form.TheVariants as form;
 use crate::command::{Command, FunctionArguments, RunArguments};
 use crate::line::{Line, Valued};
 use align_base::Word;
-use outcomes::Memory;
 use clap::builder::ValueParser;
 use clap::error::ErrorKind;
 use clap::{Arg, ArgMatches, Error};
+use outcomes::Memory;
 use std::alloc::{AllocError, Global};
 
 /// An option as one argument.

@@ -6,8 +6,8 @@ ghost use Rattle.flow_graph.specs.Marks.{IsInOrderOf};
 
 use crate::control::{Flow, flow_of};
 use crate::graphs::Graph;
-use outcomes::Memory;
 use insn_table::{Function, Insn};
+use outcomes::Memory;
 use std::alloc::Global;
 
 /// The flow graph of a closed function.

@@ -30,14 +30,14 @@ mod items;
 mod table;
 mod vector_forms;
 
-pub use insn_ops::{Cond, Flags, Op};
 pub use assembling::{Statement, assemble};
 pub use build_error::BuildError;
 pub use builder::{FunctionBuilder, assemble_function};
 pub use fitting::{Misfit, fits};
 pub use insn::{Function, Insn, Insns, Operand};
-pub use items::{Bytes, Items};
+pub use insn_ops::{Cond, Flags, Op};
 pub use insn_spellings::{Shape, look_up, mnemonics_stand_once, rows_are_named, rows_have_shapes};
+pub use items::{Bytes, Items};
 pub use table::{
     fitted_insns_are_of_the_table, forms_are_apart, plain_functions_are_closed,
     table_insns_have_mnemonics,

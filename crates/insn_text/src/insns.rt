@@ -3,9 +3,9 @@ ghost use Rattle.std.specs.Prelude.{◌≡◌, ◌++◌, ◌<◌, IfOk, OnOk, st
 ghost use Rattle.insn_text.specs.InsnText.{insn_text, operands_text};
 
 use crate::operands::push_operand;
-use outcomes::Memory;
 use insn_mnemonics::push_mnemonic;
 use insn_table::{Insn, Operand};
+use outcomes::Memory;
 use std::alloc::{AllocError, Global};
 
 /// The text of an instruction, in GNU AT&T syntax: the mnemonic with its suffix and the operands. A

@@ -5,9 +5,9 @@ ghost use Rattle.insn_table.specs.Closed.{IsClosed};
 ghost use Rattle.insn_text.specs.ShowText.{IsShown, heading, insn_line};
 
 use crate::insns::push_insn;
-use outcomes::Memory;
 use flow_graph::Graph;
 use insn_table::{Function, Insn};
+use outcomes::Memory;
 use std::alloc::{AllocError, Global};
 
 /// The lines of a function: its name, how many instructions it has, and each instruction with its

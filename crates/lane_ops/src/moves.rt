@@ -8,9 +8,9 @@ ghost use Rattle.lane_semantics.specs.Widths as widths;
 use crate::saturation::{signed_saturated, unsigned_saturated};
 use crate::widths::{bits, half_bits};
 use insn_ops::{LaneWidth, MoveOp};
-use scalar_ops::word_sx;
-use lane_views::Bytes32;
 use lane_semantics::Source;
+use lane_views::Bytes32;
+use scalar_ops::word_sx;
 
 /// The number that pair `j` of a control gives.
 fn pair(imm: u8, j: u32) -> u32

@@ -6,8 +6,8 @@ ghost use Rattle.lane_views.specs.Lanes.{lane};
 ghost use Rattle.lane_semantics.specs.Sources.{tops};
 ghost use Rattle.lane_semantics.specs.Vectors.{lane_value};
 
-use scalar_ops::{word_add, word_mul, word_sub, word_sx};
 use lane_views::Bytes32;
+use scalar_ops::{word_add, word_mul, word_sub, word_sx};
 
 /// The product of two signed words of 16 bits.
 fn signed_product(x: u64, y: u64) -> u64

@@ -6,10 +6,10 @@ ghost use Rattle.linear_forms.specs.Combinations.{IsAt, IsCombination, weighted}
 ghost use Rattle.linear_forms.specs.Places.{HasAtoms, IsAmong, word_at};
 
 use crate::places::{Place, add_atoms, word_of};
-use outcomes::Memory;
 use indexmap::IndexSet;
-use scalar_ops::low_bits;
 use node_forms::Form;
+use outcomes::Memory;
+use scalar_ops::low_bits;
 use std::alloc::Global;
 
 /// Whether the target is the sum of the parts, each times its weight, modulo 2^w.

@@ -3,10 +3,10 @@ ghost use Rattle.std.specs.Prelude.{◌≡◌, ℕ, OnOk, IfOk, length, slice_in
 ghost use Rattle.node_forms.specs.Sums.{listed_coefficient};
 ghost use Rattle.linear_forms.specs.Places.{HasAtoms, IsAmong, word_at};
 
-use outcomes::Memory;
 use indexmap::IndexSet;
 use node_forms::Form;
 use node_values::NodeId;
+use outcomes::Memory;
 
 /// A place of a form: one of its atoms, or the constant.
 #[derive(Clone, Copy, Debug, PartialEq, Eq, Hash)]

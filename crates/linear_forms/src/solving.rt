@@ -9,10 +9,10 @@ ghost use Rattle.linear_forms.specs.Rows.{word};
 use crate::elimination::eliminate;
 use crate::places::{Place, add_atoms, word_of};
 use crate::row::Row;
-use outcomes::Memory;
 use indexmap::IndexSet;
-use scalar_ops::low_bits;
 use node_forms::Form;
+use outcomes::Memory;
+use scalar_ops::low_bits;
 use std::alloc::Global;
 
 /// Weights below 2^w, one for each part, with which the parts add up to the target modulo 2^w.

@@ -28,18 +28,18 @@ use crate::ranges::{are_regs, are_vecs};
 use crate::vector_access::alignment;
 use crate::vectors::{clear_above, control, low_word, written};
 use insn_ops::Flags;
-use outcomes::Memory;
 use insn_table::{Function, Insn, Op, Operand};
-use scalar_ops::{flags, scalar};
+use lane_ops::vector;
 use lane_views::Bytes32;
 use memory_spans::{
     Span, byte_at, copy_spans, load, load_in, put_word, spans_hold_bytes, store, word_in, word_of,
     zeros,
 };
+use outcomes::Memory;
 use runs::{RunEnd, StepEnd};
+use scalar_ops::{flags, scalar};
 use std::alloc::Global;
 use std::marker::Model;
-use lane_ops::vector;
 
 /// A region of memory: `len` bytes from `base` on, which may be read, and written where `write` is.
 #[derive(Clone, Copy, Debug, PartialEq, Eq)]

@@ -1,10 +1,10 @@
 //! One line, printed and read back.
 use align_base::Word;
-use insn_ops::Op;
-use outcomes::Memory;
 use att_reader::{ReadRefusal, read_function};
+use insn_ops::Op;
 use insn_table::{Insn, Operand};
 use insn_text::insn_text;
+use outcomes::Memory;
 use std::alloc::{AllocError, Global};
 use thiserror::Error;
 

@@ -6,10 +6,10 @@ mod chain;
 mod environment;
 mod system;
 
-use outcomes::Memory;
 use chain::full_sheet;
 use environment::environment;
 use linear_forms::solve;
+use outcomes::Memory;
 use std::alloc::Global;
 use std::process::ExitCode;
 use std::rt::Env;

@@ -13,9 +13,9 @@ ghost use Rattle.node_values.specs.Values.{Environment};
 
 use crate::linear::{Linear, linearity_of};
 use insn_ops::Op;
+use node_values::{Node, NodeId};
 use outcomes::Memory;
 use scalar_ops::scalar;
-use node_values::{Node, NodeId};
 use sqlite_items::Items;
 use std::alloc::Global;
 

@@ -6,9 +6,9 @@ ghost use Rattle.lane_semantics.specs.Vectors.{vector_of};
 ghost use Rattle.processor_cases.specs.Agreement.{Agrees, IsInRange, flag_code, flag_codes, row_value};
 
 use insn_ops::{Cond, Flags, Op, VectorOp};
-use scalar_ops::{flags, holds, scalar};
-use lane_views::Bytes32;
 use lane_ops::{is_vector_row, vector};
+use lane_views::Bytes32;
+use scalar_ops::{flags, holds, scalar};
 
 /// A line of the table.
 #[derive(Drop)]

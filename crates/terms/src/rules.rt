@@ -11,10 +11,10 @@ ghost use Rattle.terms.specs.Rules as rules;
 ghost use Rattle.terms.specs.Sheet.{IsWidthList};
 
 use insn_ops::Op;
-use outcomes::Memory;
-use scalar_ops::scalar;
 use node_forms::{constant_difference, number};
 use node_values::{Node, NodeId, arguments, operate, width};
+use outcomes::Memory;
+use scalar_ops::scalar;
 use std::alloc::Global;
 
 /// A node of the sheet, or a node that stands there where it is not there yet.

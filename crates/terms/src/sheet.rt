@@ -13,10 +13,10 @@ ghost use Rattle.terms.specs.Made.{GrowsInRoom, IsEquality, made, placed};
 ghost use Rattle.terms.specs.declared.rules.Reduced.TheVariants as reductions;
 
 use crate::rules::{Reduced, reduce};
-use outcomes::Memory;
 use indexmap::IndexSet;
 use node_forms::{Form, form_of};
 use node_values::{Env, Node, NodeId, width};
+use outcomes::Memory;
 use std::alloc::{AllocError, AllocFailed, Global};
 use std::marker::Model;
 use thiserror::Error;

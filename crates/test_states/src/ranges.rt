@@ -8,8 +8,8 @@ ghost use Rattle.test_states.specs.declared.range.Range.{Range};
 ghost use Rattle.test_states.specs.Ranges.{AreApart, IsRange, is_covered};
 
 use crate::range::Range;
-use outcomes::Memory;
 use machine::Region;
+use outcomes::Memory;
 use std::alloc::Global;
 
 // Adds the first `len` addresses from `base` on, which wrap at 2^64.

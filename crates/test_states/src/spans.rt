@@ -5,8 +5,8 @@ ghost use Rattle.test_states.specs.Naming.{named_or};
 ghost use Rattle.test_states.specs.Ranges.{AreApart, IsRange, IsSpanOf, is_covered, range_has};
 
 use crate::range::Range;
-use outcomes::Memory;
 use machine::Span;
+use outcomes::Memory;
 use std::alloc::Global;
 
 // Whether the address lies in the range.

@@ -15,8 +15,8 @@ use crate::ranges::ranges_of;
 use crate::refusal::LoadRefusal;
 use crate::spans::spans_of;
 use admission::Admission;
-use outcomes::Memory;
 use machine::{Region, State};
+use outcomes::Memory;
 use std::alloc::Global;
 use tests_text::Test;
 

@@ -4,10 +4,10 @@ ghost use Rattle.flow_graph.specs.Flows.{IsHead};
 ghost use Rattle.machine.specs.Kept.{pure_of};
 ghost use Rattle.tracer.specs.Recording.{HasRegisters, HasVectors, Records, Shows};
 
-use outcomes::Memory;
 use flow_graph::Graph;
 use lane_views::Bytes32;
 use machine::State;
+use outcomes::Memory;
 use std::alloc::Global;
 
 /// A visit of a head: how many steps were done before it, its place, and what the registers and

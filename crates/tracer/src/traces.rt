@@ -2,8 +2,8 @@
 ghost use Rattle.std.specs.Prelude.{◌≡◌};
 
 use crate::recording::Visit;
-use outcomes::Memory;
 use machine::RunEnd;
+use outcomes::Memory;
 use thiserror::Error;
 
 /// What a run did: the entry's general registers, the places of its steps, its visits of heads, and
