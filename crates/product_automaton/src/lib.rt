@@ -8,12 +8,15 @@
 //! ```
 //!
 //! `ranks_fall` answers true exactly where ranks fall along every edge with an empty path on that
-//! side; `bound` and `compose` give exactly the numbers that their definitions in specs/ say.
+//! side; `bound` and `compose` give exactly the numbers that their definitions in specs/ say. By
+//! `cycle_law` no cycle stands still on a side where ranks fall.
 #![tactic(auto)]
 
 mod chains;
+mod laws;
 mod product;
 mod ranks;
 
 pub use chains::compose;
+pub use laws::cycle_law;
 pub use product::{Atom, Bound1, Invariant, PEdge, PNode, Product};

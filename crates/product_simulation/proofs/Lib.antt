@@ -1,6 +1,5 @@
 pub mod Answering
 pub mod Composing
-pub mod Cycling
 pub mod Ends
 pub mod ExampleRuns
 pub mod Moving

@@ -7,7 +7,6 @@ ghost use Rattle.runs.specs.Run.{Step};
 ghost use Rattle.product_automaton.specs.declared.product.PEdge.{PEdge};
 ghost use Rattle.product_automaton.specs.declared.product.Product.{Product};
 ghost use Rattle.product_automaton.specs.Bounds.{composed_bound, joined_bound};
-ghost use Rattle.product_automaton.specs.Cycles.{CyclesAdvance};
 ghost use Rattle.product_automaton.specs.Ranks.{RanksFall, bound_of};
 ghost use Rattle.product_simulation.specs.Chains.{AreLinked, Link, bounds_of, last_of};
 ghost use Rattle.product_simulation.specs.Leads.{IsWayOn, left_next, right_next};
@@ -33,13 +32,6 @@ pub fn simulation_law(left: &Function, right: &Function, live: &[Output], produc
         → (s : Machine) → IsStartWhere (λ t. holds 0 t t) s
         → KeepsPace (bound_of product.now) (function_step left.now) (function_step right.now) s
         × KeepsPace (bound_of product.now) (function_step right.now) (function_step left.now) s }
-{}
-
-/// The law of cycles: where ranks fall, no cycle of the product has only empty left paths, nor only
-/// empty right ones. It does nothing.
-pub fn cycle_law(product: &Product)
-    requires { RanksFall product.now }
-    ensures { CyclesAdvance product.now }
 {}
 
 /// The law of chains: two equivalences in turn make one within the joined bound, and a chain of them

@@ -16,4 +16,5 @@ mod examples;
 mod laws;
 
 pub use examples::{falling_ranks_law, nodes_count_law};
-pub use laws::{chain_law, cycle_law, no_way_law, simulation_law};
+pub use laws::{chain_law, no_way_law, simulation_law};
+pub use product_automaton::cycle_law;

@@ -1,5 +1,0 @@
-use Rattle.product_simulation.proofs.Cycling.{cycles_advance}
-use Rattle.product_simulation.proofs.laws.cycle_law.Goals as goal
-
-pub returns : goal.returns
-returns c = cycles_advance c.args.product.now c.requires
