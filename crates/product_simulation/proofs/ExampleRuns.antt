@@ -1,12 +1,12 @@
 -- The products of the examples: what holds of them, and how their functions run.
-use Rattle.std.proofs.Common.{◌≡◌, ◌≢◌, ℕ, zero, suc, ◌+◌, ◌*◌, ◌<◌, inl, All, List, [], ◌∷◌, refl, sym, ◌∙◌, ap, lit<, arith}
+use Rattle.std.proofs.Common.{◌≡◌, ◌≢◌, ℕ, zero, suc, ◌+◌, ◌*◌, ◌<◌, inl, All, List, [], ◌∷◌, length, refl, sym, ◌∙◌, ap, lit<, arith}
 use Rattle.std.specs.List.{AllByRecursion}
 use Rattle.std.proofs.lemmas.List.Elements.{All-cons, All-nil}
 use Rattle.runs.specs.Equivalent.{AreEquivalent}
 use Rattle.runs.specs.Run.{Run, run_of, stepped}
 use Rattle.runs.specs.declared.ends.RunEnd.TheVariants.{Returned, Running}
 use Rattle.product_automaton.specs.Ranks.{HasLowRanks, LowersRanks, RanksFall, longest_path}
-use Rattle.product_simulation.specs.Examples.{AnyEnd, IsAtEntry, StandingRelated, WaitingRelated, circle_edge, edge_of, endless_step, entry_edge, node_at, quick_step, slow_step, standing_product, waiting_product}
+use Rattle.product_simulation.specs.Examples.{AnyEnd, IsAtEntry, LeapingRelated, StandingRelated, WaitingRelated, circle_edge, edge_of, endless_step, entry_edge, leaping_product, node_at, quick_step, slow_step, slower_step, standing_product, waiting_product}
 use Rattle.product_simulation.specs.Leads.{EdgesLead, LeadsOn}
 
 low_node : (n : ℕ) (left right rank : ℕ) → rank < n → HasLowRanks n (node_at left right rank)
@@ -59,6 +59,34 @@ waiting_leads node within inside a b h = waiting-leads node within inside a b h
 -- within the longest path's length the slow function has not returned when the quick one has
 pub longest_is_no_bound : AreEquivalent IsAtEntry AnyEnd (longest_path waiting_product.edges) quick_step slow_step → ⊥
 longest_is_no_bound h =
+    let late = (h.left 0 refl).returned 1 1 refl in
+    let on : Running ≡ Returned late.0 = late.1 in
+    cc
+
+pub leaping_falls : RanksFall leaping_product
+leaping_falls = record {
+  two = lit< tt;
+  low = each (HasLowRanks 2) leaping_product.nodes (low_node 2 0 0 0 (lit< tt), (low_node 2 0 0 0 (lit< tt), tt));
+  lowers = each (LowersRanks leaping_product.nodes) leaping_product.edges (record { target = lit< tt; left = λ e. absurd (cc); right = λ e. absurd (cc) }, tt);
+}
+
+leaping-leads : (node : ℕ) → node < 2 → node ≢ 1 → (a b : ℕ) → LeapingRelated node a b
+    → LeadsOn (λ s. s) quick_step slower_step leaping_product LeapingRelated node a b
+leaping-leads zero within inside a b h = rw (h.left_place, h.right_place) (record {
+  edge = edge_of 0 1 (0 ∷ []) (0 ∷ 1 ∷ 2 ∷ 3 ∷ 4 ∷ []);
+  is_edge = (0, lit< tt, refl);
+  from = refl;
+  is_way = inl (record { left_end = 0; right_end = 4; left = refl; right = refl; into = tt });
+})
+leaping-leads (suc zero) within inside a b h = absurd (inside refl)
+leaping-leads (suc (suc k)) within inside a b h = absurd h
+
+pub leaping_leads : EdgesLead (λ s. s) quick_step slower_step leaping_product LeapingRelated
+leaping_leads node within inside a b h = leaping-leads node within inside a b h
+
+-- within the number of nodes the slower function has not returned when the quick one has
+pub nodes_are_no_bound : AreEquivalent IsAtEntry AnyEnd (length leaping_product.nodes) quick_step slower_step → ⊥
+nodes_are_no_bound h =
     let late = (h.left 0 refl).returned 1 1 refl in
     let on : Running ≡ Returned late.0 = late.1 in
     cc

@@ -1,4 +1,4 @@
--- Two small products, which show what the premises of the law are for. A state is the place where it stands.
+-- Three small products, which show what the premises of the law are for. A state is the place where it stands.
 use Rattle.std.specs.Prelude.{◌≡◌, ℕ, zero, suc, List, [], ◌∷◌}
 use Rattle.runs.specs.Run.{Step, Goes, Returns}
 use Rattle.product_automaton.specs.declared.product.PEdge.{PEdge}
@@ -14,6 +14,14 @@ abbrev pub slow_step : ℕ → Step ℕ
 slow_step zero = Goes 1
 slow_step (suc zero) = Goes 2
 slow_step (suc (suc s)) = Returns
+
+-- goes from place 0 to place 4, and returns there by its fifth step
+abbrev pub slower_step : ℕ → Step ℕ
+slower_step zero = Goes 1
+slower_step (suc zero) = Goes 2
+slower_step (suc (suc zero)) = Goes 3
+slower_step (suc (suc (suc zero))) = Goes 4
+slower_step (suc (suc (suc (suc s)))) = Returns
 
 -- stays where it stands, and never ends
 abbrev pub endless_step : ℕ → Step ℕ
@@ -54,6 +62,19 @@ WaitingRelated (suc zero) a b = AnyEnd a b
 WaitingRelated (suc (suc zero)) a b = AtPlaces 0 1 a b
 WaitingRelated (suc (suc (suc zero))) a b = AtPlaces 0 2 a b
 WaitingRelated (suc (suc (suc (suc k)))) a b = ⊥
+
+-- One edge leads from the entry to the exit, along one place of the left function and five of the right one.
+abbrev pub leaping_product : Product
+leaping_product = record {
+  nodes = node_at 0 0 0 ∷ node_at 0 0 0 ∷ [];
+  edges = edge_of 0 1 (0 ∷ []) (0 ∷ 1 ∷ 2 ∷ 3 ∷ 4 ∷ []) ∷ [];
+}
+
+-- which places are related at its two nodes
+abbrev pub LeapingRelated : ℕ → ℕ → ℕ → Type 0
+LeapingRelated zero a b = AtPlaces 0 0 a b
+LeapingRelated (suc zero) a b = AnyEnd a b
+LeapingRelated (suc (suc k)) a b = ⊥
 
 -- Along its last edge, whose rank does not fall, the right function goes on for ever and the left one does not.
 abbrev pub standing_product : List PEdge → Product

@@ -1,8 +1,8 @@
-//! Laws of two small products, which show what the premises of the simulation are for.
-ghost use Rattle.std.specs.Prelude.{ℕ, [], ◌∷◌};
+//! Laws of three small products, which show what the premises of the simulation are for.
+ghost use Rattle.std.specs.Prelude.{ℕ, [], ◌∷◌, length};
 ghost use Rattle.runs.specs.Equivalent.{AreEquivalent};
 ghost use Rattle.product_automaton.specs.Ranks.{RanksFall, bound_of, longest_path};
-ghost use Rattle.product_simulation.specs.Examples.{AnyEnd, IsAtEntry, StandingRelated, WaitingRelated, circle_edge, endless_step, entry_edge, quick_step, slow_step, standing_product, waiting_product};
+ghost use Rattle.product_simulation.specs.Examples.{AnyEnd, IsAtEntry, LeapingRelated, StandingRelated, WaitingRelated, circle_edge, endless_step, entry_edge, leaping_product, quick_step, slow_step, slower_step, standing_product, waiting_product};
 ghost use Rattle.product_simulation.specs.Leads.{EdgesLead};
 
 /// Why the bound counts the nodes: one function returns by its first step, the other by its third,
@@ -13,6 +13,16 @@ pub fn nodes_count_law()
     ensures leads { EdgesLead (λ s. s) quick_step slow_step waiting_product WaitingRelated }
     ensures bound { AreEquivalent IsAtEntry AnyEnd (bound_of waiting_product) quick_step slow_step }
     ensures longest { AreEquivalent IsAtEntry AnyEnd (longest_path waiting_product.edges) quick_step slow_step → ⊥ }
+{}
+
+/// Why the bound counts the steps of paths: one function returns by its first step, the other by its
+/// fifth, over a product of two nodes. Its edge leads on and its ranks fall, so its bound of 10 holds,
+/// but the number of nodes alone is no bound. It does nothing.
+pub fn longest_path_law()
+    ensures falls { RanksFall leaping_product }
+    ensures leads { EdgesLead (λ s. s) quick_step slower_step leaping_product LeapingRelated }
+    ensures bound { AreEquivalent IsAtEntry AnyEnd (bound_of leaping_product) quick_step slower_step }
+    ensures nodes { AreEquivalent IsAtEntry AnyEnd (length leaping_product.nodes) quick_step slower_step → ⊥ }
 {}
 
 /// Why ranks have to fall: one function returns by its first step, the other never ends, over a

@@ -15,6 +15,6 @@
 mod examples;
 mod laws;
 
-pub use examples::{falling_ranks_law, nodes_count_law};
+pub use examples::{falling_ranks_law, longest_path_law, nodes_count_law};
 pub use laws::{chain_law, no_way_law, simulation_law};
 pub use product_automaton::cycle_law;
