@@ -4,8 +4,9 @@ names it is that of these crates and those below them; with --kept only what no 
 
 Runs `rt ci` in this checkout (with `--anew`, where the kit has it) and looks, ten times a second, at the processes of the prover that it starts: a
 check in a folder of an edit is an edit's, one of a crate's tests is a test's, each other one is a proof's. What is left
-of the whole (compilers, programs, tests that run, processes too short to be seen) is printed as the rest. Run it with no
-other work on the machine.
+of the whole (compilers, programs, tests that run, processes too short to be seen) is printed as the rest. Behind the table
+stand the sums by kind and the whole, which is what `/usr/bin/time -v rt ci` tells. Names of crates are those that the
+checks are started with.
 
 usage: python3 bench/gate.py [--kept] [NAME..]
 """
@@ -83,7 +84,9 @@ def main():
         print(f"| `{crate}` | " + " | ".join(row) + " |")
     sums = [sum(value for (_, k), value in table.items() if k == kind) / 60 for kind in ("proofs", "tests", "edits")]
     print("| all | " + " | ".join(f"{value:.1f} min" for value in sums) + " |")
-    print(f"\nwhole {whole / 60:.1f} min of processor time, rest {whole / 60 - sum(sums):.1f} min, "
+    proofs, tests, edits = sums
+    print(f"\nby kind: proofs {proofs:.1f} min, tests {tests:.1f} min, wrong edits {edits:.1f} min, rest {whole / 60 - sum(sums):.1f} min")
+    print(f"whole {whole / 60:.1f} min of processor time ({used.ru_utime:.0f} s user, {used.ru_stime:.0f} s system), "
           f"{(time.monotonic() - start) / 60:.1f} min of clock, {used.ru_maxrss // 1024} MiB at most in one process")
     for line in text.splitlines():
         if line.startswith("rt: ") and ("refused" in line or "failed" in line) or run.returncode and "error" in line:
