@@ -61,7 +61,7 @@ mkdir "$clone.logs"
 # without names, those of crates.txt in its order, then any other folder, which is told below
 if [ $# = 0 ]; then
   listed=$(sed -n 's/^\([a-z][a-z0-9_]*\).*:.*/\1/p' "$clone/crates.txt" | while read -r crate; do [ ! -d "$clone/tests/edits/$crate" ] || echo "$crate"; done)
-  # shellcheck disable=SC2046,SC2086
+  # shellcheck disable=SC2010,SC2046,SC2086
   set -- $listed $(ls "$clone/tests/edits" | grep -v -x -F "$listed")
 fi
 for crate; do
@@ -74,7 +74,7 @@ cat "$clone.logs/"*.count | {
   refused=0 wanted=0
   while read -r some all; do refused=$((refused + some)) wanted=$((wanted + all)); done
   echo "$refused of $wanted wrong edits of $# crates refused"
-  [ "$refused" = "$wanted" ] && [ "$(ls "$clone.logs/" | grep -c '\.count$')" = $# ]
+  [ "$refused" = "$wanted" ] && [ "$(find "$clone.logs/" -name '*.count' | wc -l)" = $# ]
 }
 status=$?
 ! grep -q -s -e 'NOT REFUSED' -e 'BAD EDIT' -e 'NOT TRIED' "$clone.logs/"*.edits || status=1
