@@ -1,5 +1,5 @@
-//! Tests of nodes, sheets and forms, and nothing else: tables of nodes that are built one after another,
-//! whose numbers are worked by hand from the rules.
+//! Tests of nodes, sheets, forms and systems of forms, and nothing else: tables of nodes that are built
+//! one after another, whose numbers are worked by hand from the rules, and tables of weighted sums.
 #![tactic(auto)]
 
 #[cfg(test)]
@@ -8,6 +8,8 @@ mod building;
 mod evaluation;
 #[cfg(test)]
 mod forms;
+#[cfg(test)]
+mod systems;
 #[cfg(test)]
 mod trial;
 #[cfg(test)]

@@ -1,6 +1,7 @@
+pub mod Built
+pub mod CutLaws
 pub mod GrowingNodes
+pub mod MadeLaws
+pub mod RuleLaws
 pub mod WidthFacts
 pub mod WordRules
-pub mod CutLaws
-pub mod RuleLaws
-pub mod MadeLaws

@@ -2,7 +2,9 @@
 //!
 //! `Sheet::build` gives the number of a node that has, in every environment, the value of the node that
 //! is asked for (`specs/Rules.antt` says which node it is, and `specs/Made.antt` what becomes of the
-//! sheet). `Sheet::eval` and `Sheet::form` give values and linear forms.
+//! sheet). `Sheet::eval` and `Sheet::form` give values and linear forms. An expression over words is built
+//! operator by operator (`specs/Building.antt`); by `expressions_have_their_values` its node has the
+//! expression's value in every environment, and so have the rows of instructions.
 //!
 //! ```text
 //! let mut sheet = Sheet::new(alloc);
@@ -12,11 +14,10 @@
 //! ```
 #![tactic(auto)]
 
-mod duty;
+pub mod laws;
 mod rules;
 mod sheet;
 
-pub use duty::{Access, Duty, DutyName, Fixed, Kind, Relation, Spot, StartPair};
 pub use node_forms::Form;
 pub use node_values::{Env, Node, NodeId};
 pub use sheet::{Sheet, SheetFull};

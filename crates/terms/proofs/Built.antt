@@ -13,7 +13,8 @@ use Rattle.node_values.specs.Values.{Environment, node_value}
 use Rattle.node_values.proofs.SheetLaws.{value_at-append, width_at-append}
 use Rattle.terms.specs.Made.{Made, made}
 use Rattle.terms.proofs.MadeLaws.{IsBuilt, made_built}
-use Rattle.node_exprs.specs.Building.{HasValue, IsFormed, built, expr_width, operator_node, operator_width, shift_node, with_node_leaf}
+use Rattle.insn_semantics.specs.Formed.{IsFormed, expr_width, operator_width}
+use Rattle.terms.specs.Building.{HasValue, built, operator_node, shift_node, with_node_leaf}
 
 extends_trans : (ns ms ls : List Node) → Extends ns ms → Extends ms ls → Extends ns ls
 extends_trans ns ms ls h k = (h.0 ++ k.0, k.1 ∙ ap (λ l. l ++ k.0) h.1 ∙ append_assoc ns h.0 k.0)

@@ -1,7 +1,8 @@
 -- An expression over words, built into a sheet over nodes: operator by operator, the arguments first, from left to
 -- right, each by the rules.
-use Rattle.std.specs.Prelude.{◌≡◌, ℕ, ◌+◌, ◌^◌, ◌<◌, ◌≤◌, ◌==◌, List, length, if◌then◌else◌}
+use Rattle.std.specs.Prelude.{◌≡◌, ℕ, ◌<◌, ◌==◌, List, length, if◌then◌else◌}
 use Rattle.insn_semantics.specs.Exprs as exprs
+use Rattle.insn_semantics.specs.Formed.{expr_width}
 use Rattle.node_values.specs.declared.node.Node.{Node}
 use Rattle.node_values.specs.declared.node.Node.TheVariants as nodes
 use Rattle.node_values.specs.declared.node.NodeId.{NodeId}
@@ -54,43 +55,6 @@ built ns leaves (exprs.Choice c x y) =
     let second = built first.nodes leaves y in
     made second.nodes (nodes.If test.id first.id second.id)
 built ns leaves (exprs.Let i x y) = let first = built ns leaves x in built first.nodes (with_node_leaf leaves i first.id) y
-
--- the width of an operator's result on words of w bits
-abbrev pub operator_width : exprs.Operator → ℕ → ℕ
-operator_width exprs.Equal w = 1
-operator_width exprs.Below w = 1
-operator_width exprs.SignedBelow w = 1
-operator_width _ w = w
-
--- the width of an expression, from the widths of its leaves
-abbrev pub expr_width : (ℕ → ℕ) → exprs.Expr → ℕ
-expr_width leaves (exprs.Leaf i) = leaves i
-expr_width leaves (exprs.Number w v) = w
-expr_width leaves (exprs.Two operator w x y) = operator_width operator w
-expr_width leaves (exprs.Not w x) = w
-expr_width leaves (exprs.Shifted shift w x k) = w
-expr_width leaves (exprs.Joined n x y) = expr_width leaves x + n
-expr_width leaves (exprs.Cut x k n) = n
-expr_width leaves (exprs.Extended m n x) = n
-expr_width leaves (exprs.Choice c x y) = expr_width leaves x
-expr_width leaves (exprs.Let i x y) = expr_width (exprs.with_leaf leaves i (expr_width leaves x)) y
-
--- The widths of an expression agree: each argument has the width that its operator names, numbers are words, and
--- shifts, cuts, joins and extensions are those of nodes.
-abbrev pub IsFormed : (ℕ → ℕ) → exprs.Expr → Type 0
-IsFormed leaves (exprs.Leaf i) = Unit {0}
-IsFormed leaves (exprs.Number w v) = (0 < w) × (w ≤ 64) × (v < 2 ^ w)
-IsFormed leaves (exprs.Two operator w x y) =
-    (expr_width leaves x ≡ w) × (expr_width leaves y ≡ w) × IsFormed leaves x × IsFormed leaves y
-IsFormed leaves (exprs.Not w x) = (expr_width leaves x ≡ w) × IsFormed leaves x
-IsFormed leaves (exprs.Shifted shift w x k) = (expr_width leaves x ≡ w) × (0 < k) × (k < w) × IsFormed leaves x
-IsFormed leaves (exprs.Joined n x y) =
-    (expr_width leaves y ≡ n) × (expr_width leaves x + n ≤ 64) × IsFormed leaves x × IsFormed leaves y
-IsFormed leaves (exprs.Cut x k n) = (0 < n) × (k + n ≤ expr_width leaves x) × IsFormed leaves x
-IsFormed leaves (exprs.Extended m n x) = (expr_width leaves x ≡ m) × (m < n) × (n ≤ 64) × IsFormed leaves x
-IsFormed leaves (exprs.Choice c x y) =
-    (expr_width leaves c ≡ 1) × (expr_width leaves x ≡ expr_width leaves y) × IsFormed leaves c × IsFormed leaves x × IsFormed leaves y
-IsFormed leaves (exprs.Let i x y) = IsFormed leaves x × IsFormed (exprs.with_leaf leaves i (expr_width leaves x)) y
 
 -- a built expression: older nodes stay, the sheet is one, and the node has the expression's width and, in every
 -- environment, its value

@@ -1,10 +1,11 @@
 //! The law of expressions that are built into a sheet. The function does nothing; its contract is the law.
 ghost use Rattle.std.specs.Prelude.{ℕ, ◌<◌, List, length};
 ghost use Rattle.insn_semantics.specs.Exprs.{Expr};
-ghost use Rattle.node_exprs.specs.Building.{HasValue, IsFormed, built};
+ghost use Rattle.insn_semantics.specs.Formed.{IsFormed};
 ghost use Rattle.node_values.specs.Sheets.{IsSheet, width_at};
 ghost use Rattle.node_values.specs.declared.node.Node.{Node};
 ghost use Rattle.node_values.specs.declared.node.NodeId.{NodeId};
+ghost use Rattle.terms.specs.Building.{HasValue, built};
 
 /// An expression whose widths agree, built into a sheet over nodes of the sheet, has its value there in
 /// every environment; the older nodes stay.

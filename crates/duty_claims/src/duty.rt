@@ -1,8 +1,7 @@
 //! What is to be shown of a sheet: that hypotheses lead to a goal.
 
-use crate::sheet::Sheet;
 use insn_ops::Side;
-use node_values::NodeId;
+use terms::{NodeId, Sheet};
 
 /// How the addresses of two accesses lie to each other.
 #[derive(Clone, Copy, Debug, PartialEq, Eq)]
@@ -73,14 +72,14 @@ pub struct StartPair {
     pub scratch: Option<NodeId>,
 }
 
-/// A goal that is to be 1 in every environment in which all hypotheses are.
+/// Goals, one of which is to be 1 in every environment in which all hypotheses are.
 #[derive(Clone, Copy)]
 pub struct Duty<'a> {
     pub sheet: &'a Sheet,
     pub hyps: &'a [NodeId],
     pub goal: NodeId,
     pub name: DutyName,
-    /// Further hypotheses: the relations that are fixed.
+    /// Further goals: the goal or one of these has to be 1.
     pub more: &'a [NodeId],
     /// Each two bytes of memory of the sheet, in order.
     pub pairs: &'a [StartPair],

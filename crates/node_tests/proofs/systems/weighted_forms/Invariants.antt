@@ -1,6 +1,6 @@
 use Rattle.std.specs.List.{AllByRecursion}
 use Rattle.linear_forms.specs.Combinations.{IsAt}
-use Rattle.system_tests.proofs.systems.weighted_forms.Given as goal
+use Rattle.node_tests.proofs.systems.weighted_forms.Given as goal
 
 abbrev pub invariant-loop-weight : goal.invariant-loop-weight
 invariant-loop-weight l = AllByRecursion (λ p. IsAt l.w p.1) l.parts.items
