@@ -1,10 +1,11 @@
 -- Single steps of the code's loop over lines: the draft so far, and what is left.
 use Rattle.std.proofs.Common.{◌≡◌, ℕ, List, ◌∷◌, Option, Some, None, Result, Ok, Err, sym, ap, ◌∙◌}
+use Rattle.outcomes.specs.Answering.{Gives}
 use Rattle.outcomes.specs.Firsts.{◌>>=◌}
+use Rattle.outcomes.proofs.Answering.{unless-map}
 use Rattle.admission_text.specs.declared.entry.Draft.{Draft}
 use Rattle.admission_text.specs.declared.refusal.AdmitRefusal.{AdmitRefusal}
-use Rattle.admission_text.specs.declared.refusal.AdmitRefusal.TheVariants.{BadLine, TooMany, NoLive, Memory}
-use Rattle.admission_text.specs.Refusals.{Gives}
+use Rattle.admission_text.specs.declared.refusal.AdmitRefusal.TheVariants.{Memory}
 use Rattle.admission_text.specs.Grammar.{parts}
 use Rattle.admission_text.specs.Reading.{first_part, parts_left}
 use Rattle.admission_text.specs.ReadingLines.{behind_line, behind_lines, next_line, no_draft}
@@ -33,11 +34,8 @@ module _ (left : Option (List ℕ)) (number : ℕ) (d : Draft) (text : List ℕ)
 
   -- a line that is refused is the answer
   pub line-stop : (rest line : List ℕ) (more : Option (List ℕ)) (next : ℕ) (e : AdmitRefusal) → left ≡ Some rest → (line, more) ≡ first_part 10 rest → next ≡ next_line number
-      → Gives {A = Draft} (Err e) (behind_line next d line) → Gives {A = Draft} (Err e) (behind_lines 0 no_draft (parts 10 text))
-  line-stop rest line more next (BadLine n) is first counted gives = line-err rest line more next (BadLine n) is first counted gives
-  line-stop rest line more next (TooMany n) is first counted gives = line-err rest line more next (TooMany n) is first counted gives
-  line-stop rest line more next NoLive is first counted gives = line-err rest line more next NoLive is first counted gives
-  line-stop rest line more next Memory is first counted gives = tt
+      → Gives {A = Draft} Memory (Err e) (behind_line next d line) → Gives {A = Draft} Memory (Err e) (behind_lines 0 no_draft (parts 10 text))
+  line-stop rest line more next e is first counted gives = unless-map (line-err rest line more next e is first counted) gives
 
   pub line-end : left ≡ None → behind_lines 0 no_draft (parts 10 text) ≡ Ok d
   unfolding behind_lines

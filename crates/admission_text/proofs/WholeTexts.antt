@@ -1,8 +1,10 @@
 -- What is read of a whole text is right, and only that is.
 use Rattle.std.proofs.Common.{◌≡◌, ℕ, ◌+◌, ◌≤◌, inl, inr, Bool, true, false, cond, List, [], ◌∷◌, ◌++◌, Option, Some, None, Result, Ok, Err, IfOk, refl, sym, ap, ◌∙◌, subst, append-nil, append_assoc, arith}
 use Rattle.std.proofs.lemmas.Bool.{both_ways}
-use Rattle.outcomes.specs.Firsts.{◌>>=◌, HasFault, IsFirst}
-use Rattle.outcomes.proofs.FirstFaults.{AreAll, ComesFirst, IsOutcome, fault-cases, fault-here, fault-none, first-once, outcome-then}
+use Rattle.outcomes.specs.Answering.{Answers, Gives}
+use Rattle.outcomes.specs.Firsts.{◌>>=◌, HasFault, IsFirst, Precedes}
+use Rattle.outcomes.proofs.Answering.{unless-map}
+use Rattle.outcomes.proofs.FirstFaults.{AreAll, ComesFirst, IsOutcome, fault-cases, fault-here, fault-none, first-alone, outcome-then, placed-first}
 use Rattle.admission.specs.declared.admission.Admission.{Admission}
 use Rattle.admission.specs.WellFormed.{IsWellFormed}
 use Rattle.admission_text.specs.declared.entry.Draft.{Draft}
@@ -11,7 +13,7 @@ use Rattle.admission_text.specs.declared.refusal.AdmitRefusal.{AdmitRefusal}
 use Rattle.admission_text.specs.declared.refusal.AdmitRefusal.TheVariants.{BadLine, TooMany, NoLive, Memory}
 use Rattle.admission_text.specs.Grammar.{IsEntry, Line, is_skipped, lines_from, lines_of, parts}
 use Rattle.admission_text.specs.Entries.{AreEntries, IsAdmissionText, goes_over, with_entries}
-use Rattle.admission_text.specs.Refusals.{Dead, Faulty, Gives, IsFault, IsRefused, Precedes, Reads, fault_line, given, line_number, rank}
+use Rattle.admission_text.specs.Refusals.{Dead, Faulty, IsLineFault, IsRefused, fault_line, given, line_number, rank}
 use Rattle.admission_text.specs.Reading.{entry_of}
 use Rattle.admission_text.specs.ReadingLines.{admission_of, behind_line, behind_lines, drafted_with, finished, is_over, judged, next_line, no_draft}
 use Rattle.admission_text.proofs.EntryTexts.{Tells, entry-known, entry-only}
@@ -28,11 +30,15 @@ unfoldable read_all : ℕ → Draft → List (List ℕ) → Result (List Entry) 
 read_all n d [] = Ok []
 read_all n d (t ∷ ts) = cond (is_skipped t) (read_all (n + 1) d ts) (entry_then n d (entry_of d t) (λ e. read_all (n + 1) (drafted_with d e) ts))
 
+-- the order of faults
+abbrev LineOrder : AdmitRefusal → AdmitRefusal → Type 0
+LineOrder e other = Precedes fault_line rank e other
+
 -- what is read of a line
 abbrev IsRead : List Line → Line → List Entry → Type 0
 IsRead before l found = (e : Entry) × (found ≡ e ∷ []) × IsEntry before l.words e × (goes_over before l.words ≡ false)
 
-fault-at : (before : List Line) (l : Line) (e : AdmitRefusal) → IsFault before l e → fault_line e ≡ l.number
+fault-at : (before : List Line) (l : Line) (e : AdmitRefusal) → IsLineFault before l e → fault_line e ≡ l.number
 fault-at before l e (inl p) = ap fault_line p.0
 fault-at before l e (inr p) = ap fault_line p.0
 
@@ -48,43 +54,41 @@ lines-above (t ∷ ts) m before item after is = by_skip (λ front. lines-above t
     by_skip later false (b ∷ front) e = let above = later front (rest-same e) in omega arith
 
 -- so a fault of a line goes before those of later lines
-in-order : (front : List Line) (l : Line) (ts : List (List ℕ)) → ComesFirst IsFault Precedes front l (lines_from (l.number + 1) ts)
-in-order front l ts e other here later =
-    let above : l.number + 1 ≤ later.item.number = lines-above ts (l.number + 1) later.before later.item later.after later.there in
-    let low : fault_line e ≡ l.number = fault-at front l e here in
-    let high : fault_line other ≡ later.item.number = fault-at ((front ++ l ∷ []) ++ later.before) later.item other later.wrong in
-    inl (omega arith)
+in-order : (front : List Line) (l : Line) (ts : List (List ℕ)) → ComesFirst IsLineFault LineOrder front l (lines_from (l.number + 1) ts)
+in-order front l ts =
+    placed-first IsLineFault fault_line rank (λ (x : Line). x.number) fault-at front l (lines_from (l.number + 1) ts)
+    (λ before item after there. let above = lines-above ts (l.number + 1) before item after there in omega arith)
 
 -- a fault of the first item is the first fault
-stops : (front : List Line) (l : Line) (ts : List (List ℕ)) (e : AdmitRefusal) → IsFault front l e → ((other : AdmitRefusal) → IsFault front l other → Precedes e other)
-    → IsFirst IsFault Precedes front (l ∷ lines_from (l.number + 1) ts) e
+stops : (front : List Line) (l : Line) (ts : List (List ℕ)) (e : AdmitRefusal) → IsLineFault front l e → ((other : AdmitRefusal) → IsLineFault front l other → LineOrder e other)
+    → IsFirst IsLineFault LineOrder front (l ∷ lines_from (l.number + 1) ts) e
 stops front l ts e here least =
     record {
-      has = fault-here IsFault front l (lines_from (l.number + 1) ts) e here;
-      least = λ other h. elim (fault-cases IsFault front l (lines_from (l.number + 1) ts) other h) [
+      has = fault-here IsLineFault front l (lines_from (l.number + 1) ts) e here;
+      least = λ other h. elim (fault-cases IsLineFault front l (lines_from (l.number + 1) ts) other h) [
         | inl at ↦ least other at
         | inr later ↦ in-order front l ts e other here later
       ];
     }
 
-same-line : (e other : AdmitRefusal) (n : ℕ) → fault_line e ≡ n → fault_line other ≡ n → rank e ≤ rank other → Precedes e other
+same-line : (e other : AdmitRefusal) (n : ℕ) → fault_line e ≡ n → fault_line other ≡ n → rank e ≤ rank other → LineOrder e other
 same-line e other n a b low = inr (a ∙ sym b, low)
 
 rank-of : (other : AdmitRefusal) (x : AdmitRefusal) → other ≡ x → rank other ≡ rank x
 rank-of other x is = ap rank is
 
 -- a line that spells nothing
-bad-first : (before : List Line) (l : Line) (other : AdmitRefusal) → IsFault before l other → Precedes (BadLine l.number) other
+bad-first : (before : List Line) (l : Line) (other : AdmitRefusal) → IsLineFault before l other → LineOrder (BadLine l.number) other
 bad-first before l other h = same-line (BadLine l.number) other l.number refl (fault-at before l other h) (omega arith)
 
 -- a line that goes over, and spells an entry
-over-first : (before : List Line) (l : Line) (e : Entry) → IsEntry before l.words e → (other : AdmitRefusal) → IsFault before l other → Precedes (TooMany l.number) other
+over-first : (before : List Line) (l : Line) (e : Entry) → IsEntry before l.words e → (other : AdmitRefusal) → IsLineFault before l other → LineOrder (TooMany l.number) other
 over-first before l e is other (inl p) = absurd (p.1 e is)
 over-first before l e is other (inr p) =
     let same : rank other ≡ 1 = ap rank p.0 in
     same-line (TooMany l.number) other l.number refl (ap fault_line p.0) (omega arith)
 
-no-fault : (before : List Line) (l : Line) (e : Entry) → IsEntry before l.words e → goes_over before l.words ≡ false → (other : AdmitRefusal) → IsFault before l other → ⊥
+no-fault : (before : List Line) (l : Line) (e : Entry) → IsEntry before l.words e → goes_over before l.words ≡ false → (other : AdmitRefusal) → IsLineFault before l other → ⊥
 no-fault before l e is within other (inl p) = p.1 e is
 no-fault before l e is within other (inr p) = both_ways (goes_over before l.words) within p.1
 
@@ -95,35 +99,35 @@ some-none : (e : Entry) → ◌≡◌ {A = Option Entry} None (Some e) → ⊥
 some-none e h = cc
 
 abbrev AreOutcomes : List (List ℕ) → ℕ → Type 0
-AreOutcomes ts n = (before : List Line) (d : Draft) → Tells before d → IsOutcome IsFault Precedes IsRead before (lines_from n ts) (read_all n d ts)
+AreOutcomes ts n = (before : List Line) (d : Draft) → Tells before d → IsOutcome IsLineFault LineOrder IsRead before (lines_from n ts) (read_all n d ts)
 
 over-outcome : (t : List ℕ) (ts : List (List ℕ)) (n : ℕ) → AreOutcomes ts (n + 1) → (before : List Line) (d : Draft) → Tells before d → (e : Entry) (over : Bool) → is_over d e ≡ over
     → IsEntry before (parts 32 t) e
-    → IsOutcome IsFault Precedes IsRead before (line_at n t ∷ lines_from (n + 1) ts) (cond over (Err (TooMany n)) (read_all (n + 1) (drafted_with d e) ts >>= λ es. Ok (e ∷ es)))
+    → IsOutcome IsLineFault LineOrder IsRead before (line_at n t ∷ lines_from (n + 1) ts) (cond over (Err (TooMany n)) (read_all (n + 1) (drafted_with d e) ts >>= λ es. Ok (e ∷ es)))
 over-outcome t ts n more before d tells e true is entry =
     stops before (line_at n t) ts (TooMany n) (inr (refl, sym (over-same before d (parts 32 t) e tells entry) ∙ is)) (over-first before (line_at n t) e entry)
 over-outcome t ts n more before d tells e false is entry =
     let within : goes_over before (parts 32 t) ≡ false = sym (over-same before d (parts 32 t) e tells entry) ∙ is in
-    outcome-then IsFault Precedes IsRead before (line_at n t) (lines_from (n + 1) ts) (Ok (e ∷ [])) (read_all (n + 1) (drafted_with d e) ts) (in-order before (line_at n t) ts)
+    outcome-then IsLineFault LineOrder IsRead before (line_at n t) (lines_from (n + 1) ts) (Ok (e ∷ [])) (read_all (n + 1) (drafted_with d e) ts) (in-order before (line_at n t) ts)
     ((e, refl, entry, within), no-fault before (line_at n t) e entry within)
     (more (before ++ line_at n t ∷ []) (drafted_with d e) (tells-more before d (line_at n t) e tells entry))
 
 entry-outcome : (t : List ℕ) (ts : List (List ℕ)) (n : ℕ) → AreOutcomes ts (n + 1) → (before : List Line) (d : Draft) → Tells before d → (r : Option Entry) → entry_of d t ≡ r
-    → IsOutcome IsFault Precedes IsRead before (line_at n t ∷ lines_from (n + 1) ts) (entry_then n d r (λ e. read_all (n + 1) (drafted_with d e) ts))
+    → IsOutcome IsLineFault LineOrder IsRead before (line_at n t ∷ lines_from (n + 1) ts) (entry_then n d r (λ e. read_all (n + 1) (drafted_with d e) ts))
 entry-outcome t ts n more before d tells None is =
     stops before (line_at n t) ts (BadLine n) (inl (refl, λ entry h. some-none entry (sym is ∙ entry-only before d t entry tells h))) (bad-first before (line_at n t))
 entry-outcome t ts n more before d tells (Some e) is = over-outcome t ts n more before d tells e (is_over d e) refl (entry-known before d t e tells is)
 
 line-outcome : (t : List ℕ) (ts : List (List ℕ)) (n : ℕ) → AreOutcomes ts (n + 1) → (before : List Line) (d : Draft) → Tells before d → (skip : Bool)
-    → IsOutcome IsFault Precedes IsRead before (cond skip (lines_from (n + 1) ts) (line_at n t ∷ lines_from (n + 1) ts))
+    → IsOutcome IsLineFault LineOrder IsRead before (cond skip (lines_from (n + 1) ts) (line_at n t ∷ lines_from (n + 1) ts))
     (cond skip (read_all (n + 1) d ts) (entry_then n d (entry_of d t) (λ e. read_all (n + 1) (drafted_with d e) ts)))
 line-outcome t ts n more before d tells true = more before d tells
 line-outcome t ts n more before d tells false = entry-outcome t ts n more before d tells (entry_of d t) refl
 
 -- what reading lines answers is right
-read-outcome : (ts : List (List ℕ)) (n : ℕ) (before : List Line) (d : Draft) → Tells before d → IsOutcome IsFault Precedes IsRead before (lines_from n ts) (read_all n d ts)
+read-outcome : (ts : List (List ℕ)) (n : ℕ) (before : List Line) (d : Draft) → Tells before d → IsOutcome IsLineFault LineOrder IsRead before (lines_from n ts) (read_all n d ts)
 unfolding read_all
-read-outcome [] n before d tells = (refl, λ e h. fault-none IsFault before e h)
+read-outcome [] n before d tells = (refl, λ e h. fault-none IsLineFault before e h)
 read-outcome (t ∷ ts) n before d tells = line-outcome t ts n (read-outcome ts (n + 1)) before d tells (is_skipped t)
 
 -- all that is read are the entries of the lines
@@ -223,7 +227,7 @@ whole : (text : List ℕ) → admission_of text ≡ (told no_draft (entries_of t
 unfolding admission_of
 whole text = ap (λ (r : Result Draft AdmitRefusal). r >>= finished) (behind-all (parts 10 text) 0 no_draft)
 
-outcome : (text : List ℕ) → IsOutcome IsFault Precedes IsRead [] (lines_of text) (entries_of text)
+outcome : (text : List ℕ) → IsOutcome IsLineFault LineOrder IsRead [] (lines_of text) (entries_of text)
 outcome text = read-outcome (parts 10 text) 1 [] no_draft tells-none
 
 -- what was answered is right
@@ -231,7 +235,7 @@ abbrev pub IsRight : List ℕ → Result Admission AdmitRefusal → Type 0
 IsRight text (Ok a) = IsAdmissionText text a × IsWellFormed a
 IsRight text (Err e) = IsRefused text e
 
-finish : (text : List ℕ) (es : List Entry) (lived : Bool) → AreEntries [] (lines_of text) es → ((e : AdmitRefusal) → HasFault IsFault [] (lines_of text) e → ⊥)
+finish : (text : List ℕ) (es : List Entry) (lived : Bool) → AreEntries [] (lines_of text) es → ((e : AdmitRefusal) → HasFault IsLineFault [] (lines_of text) e → ⊥)
     → (drafted_all no_draft es).lived ≡ lived → IsRight text (cond lived (Ok (drafted_all no_draft es).admission) (Err NoLive))
 finish text es true are sound is =
     let f = follows-all (lines_of text) [] no_draft es tells-none formed-none are in
@@ -240,7 +244,7 @@ finish text es false are sound is =
     let f = follows-all (lines_of text) [] no_draft es tells-none formed-none are in
     Dead sound (sym f.tells.lived ∙ is) refl
 
-right-by : (text : List ℕ) (r : Result (List Entry) AdmitRefusal) → IsOutcome IsFault Precedes IsRead [] (lines_of text) r → IsRight text (told no_draft r >>= finished)
+right-by : (text : List ℕ) (r : Result (List Entry) AdmitRefusal) → IsOutcome IsLineFault LineOrder IsRead [] (lines_of text) r → IsRight text (told no_draft r >>= finished)
 right-by text (Ok es) out = finish text es (drafted_all no_draft es).lived (all-entries (lines_of text) [] es out.0) out.1 refl
 right-by text (Err e) out = Faulty e out refl
 
@@ -257,42 +261,19 @@ admission-only text a is =
     whole text ∙ ap (λ (r : Result (List Entry) AdmitRefusal). told no_draft r >>= finished) read
     ∙ ap (λ (t : Bool). cond t (Ok (drafted_all no_draft is.entries).admission) (Err NoLive)) lived ∙ ap (λ (x : Admission). Ok x) means
 
--- faults that precede each other are one
+-- faults of one line and one rank are one
 
-bad-bad : (m n : ℕ) → Precedes (BadLine m) (BadLine n) → Precedes (BadLine n) (BadLine m) → m ≡ n
-bad-bad m n (inl a) (inl b) = absurd (omega arith)
-bad-bad m n (inl a) (inr b) = absurd (omega (arith, b.0))
-bad-bad m n (inr a) b = a.0
-
-many-many : (m n : ℕ) → Precedes (TooMany m) (TooMany n) → Precedes (TooMany n) (TooMany m) → m ≡ n
-many-many m n (inl a) (inl b) = absurd (omega arith)
-many-many m n (inl a) (inr b) = absurd (omega (arith, b.0))
-many-many m n (inr a) b = a.0
-
-bad-many : (m n : ℕ) → Precedes (BadLine m) (TooMany n) → Precedes (TooMany n) (BadLine m) → ⊥
-bad-many m n (inl a) (inl b) = omega arith
-bad-many m n (inl a) (inr b) = omega (arith, b.0)
-bad-many m n (inr a) (inl b) = omega (arith, a.0)
-bad-many m n (inr a) (inr b) = omega (arith, b.1)
-
-carried : (a b x y : AdmitRefusal) → a ≡ x → b ≡ y → Precedes a b → Precedes x y
-carried a b x y p q h = subst (λ (u : AdmitRefusal). Precedes u y) p (subst (λ (v : AdmitRefusal). Precedes a v) q h)
-
-fault-same : (front : List Line) (ls : List Line) (a b : AdmitRefusal) → HasFault IsFault front ls a → HasFault IsFault front ls b → Precedes a b → Precedes b a → a ≡ b
-fault-same front ls a b x y one two = by_cases x.wrong y.wrong
+fault-same : (front ls : List Line) (a b : AdmitRefusal) → HasFault IsLineFault front ls a → HasFault IsLineFault front ls b → fault_line a ≡ fault_line b → rank a ≡ rank b → a ≡ b
+fault-same front ls a b x y lines ranks = by_cases x.wrong y.wrong
   where
-    by_cases : IsFault (front ++ x.before) x.item a → IsFault (front ++ y.before) y.item b → a ≡ b
-    by_cases (inl p) (inl q) =
-        let same = bad-bad x.item.number y.item.number (carried a b _ _ p.0 q.0 one) (carried b a _ _ q.0 p.0 two) in
-        p.0 ∙ ap (λ (n : ℕ). BadLine n) same ∙ sym q.0
-    by_cases (inl p) (inr q) = absurd (bad-many x.item.number y.item.number (carried a b _ _ p.0 q.0 one) (carried b a _ _ q.0 p.0 two))
-    by_cases (inr p) (inl q) = absurd (bad-many y.item.number x.item.number (carried b a _ _ q.0 p.0 two) (carried a b _ _ p.0 q.0 one))
-    by_cases (inr p) (inr q) =
-        let same = many-many x.item.number y.item.number (carried a b _ _ p.0 q.0 one) (carried b a _ _ q.0 p.0 two) in
-        p.0 ∙ ap (λ (n : ℕ). TooMany n) same ∙ sym q.0
+    by_cases : IsLineFault (front ++ x.before) x.item a → IsLineFault (front ++ y.before) y.item b → a ≡ b
+    by_cases (inl p) (inl q) = p.0 ∙ ap (λ (n : ℕ). BadLine n) (sym (ap fault_line p.0) ∙ lines ∙ ap fault_line q.0) ∙ sym q.0
+    by_cases (inl p) (inr q) = let low : rank a ≡ 0 = ap rank p.0 in let high : rank b ≡ 1 = ap rank q.0 in absurd (omega arith)
+    by_cases (inr p) (inl q) = let high : rank a ≡ 1 = ap rank p.0 in let low : rank b ≡ 0 = ap rank q.0 in absurd (omega arith)
+    by_cases (inr p) (inr q) = p.0 ∙ ap (λ (n : ℕ). TooMany n) (sym (ap fault_line p.0) ∙ lines ∙ ap fault_line q.0) ∙ sym q.0
 
 -- a refusal of a text is what is answered
-refused-by : (text : List ℕ) (e : AdmitRefusal) (r : Result (List Entry) AdmitRefusal) → IsOutcome IsFault Precedes IsRead [] (lines_of text) r → IsRefused text e
+refused-by : (text : List ℕ) (e : AdmitRefusal) (r : Result (List Entry) AdmitRefusal) → IsOutcome IsLineFault LineOrder IsRead [] (lines_of text) r → IsRefused text e
     → (told no_draft r >>= finished) ≡ Err e
 refused-by text e (Ok es) out (Faulty first is means) = absurd (out.1 first is.has)
 refused-by text e (Ok es) out (Dead sound dead means) =
@@ -300,35 +281,51 @@ refused-by text e (Ok es) out (Dead sound dead means) =
     let f = follows-all (lines_of text) [] no_draft es tells-none formed-none are in
     ap (λ (t : Bool). cond t (Ok (drafted_all no_draft es).admission) (Err NoLive)) (f.tells.lived ∙ dead) ∙ ap (λ (x : AdmitRefusal). Err x) (sym means)
 refused-by text e (Err f) out (Faulty first is means) =
-    let same = first-once IsFault Precedes [] (lines_of text) (fault-same [] (lines_of text)) f first out is in
+    let same = first-alone IsLineFault fault_line rank [] (lines_of text) (fault-same [] (lines_of text)) f first out is in
     ap (λ (x : AdmitRefusal). Err (given x)) same ∙ ap (λ (x : AdmitRefusal). Err x) (sym means)
 refused-by text e (Err f) out (Dead sound dead means) = absurd (sound f out.has)
 
 admission-refused : (text : List ℕ) (e : AdmitRefusal) → IsRefused text e → admission_of text ≡ Err e
 admission-refused text e refused = whole text ∙ refused-by text e (entries_of text) (outcome text) refused
 
--- a text is not both an admission and refused
+-- one meaning
+
+-- a text spells at most one admission
+pub text-once : (text : List ℕ) (a b : Admission) → IsAdmissionText text a → IsAdmissionText text b → a ≡ b
+text-once text a b one two = let p = admission-only text a one in let q = admission-only text b two in cc
+
+-- is not refused then
 pub text-differs : (text : List ℕ) (a : Admission) (e : AdmitRefusal) → IsAdmissionText text a → IsRefused text e → ⊥
 text-differs text a e is refused = let p = admission-only text a is in let q = admission-refused text e refused in cc
+
+-- is refused in at most one way
+pub refused-once : (text : List ℕ) (a b : AdmitRefusal) → IsRefused text a → IsRefused text b → a ≡ b
+refused-once text a b one two = let p = admission-refused text a one in let q = admission-refused text b two in cc
+
+-- and never because memory was not found
+pub refused-found : (text : List ℕ) (e : AdmitRefusal) → IsRefused text e → e ≡ Memory → ⊥
+refused-found text e (Faulty first is means) memory = by_fault is.has.wrong
+  where
+    by_fault : IsLineFault ([] ++ is.has.before) is.has.item first → ⊥
+    by_fault (inl p) = let q : e ≡ given (BadLine is.has.item.number) = means ∙ ap given p.0 in cc
+    by_fault (inr p) = let q : e ≡ given (TooMany is.has.item.number) = means ∙ ap given p.0 in cc
+refused-found text e (Dead sound dead means) memory = cc
 
 -- the answer, where memory may be wanted
 
 -- what is answered is so
-pub reads-from : (text : List ℕ) (result : Result Admission AdmitRefusal) → Gives result (admission_of text) → Reads text result
+pub reads-from : (text : List ℕ) (result : Result Admission AdmitRefusal) → Gives Memory result (admission_of text) → Answers Memory (IsAdmissionText text) (IsRefused text) result
 reads-from text (Ok a) gives = (subst (IsRight text) gives (admission-right text)).0
-reads-from text (Err (BadLine n)) gives = subst (IsRight text) gives (admission-right text)
-reads-from text (Err (TooMany n)) gives = subst (IsRight text) gives (admission-right text)
-reads-from text (Err NoLive) gives = subst (IsRight text) gives (admission-right text)
-reads-from text (Err Memory) gives = tt
+reads-from text (Err e) gives = unless-map (λ (is : admission_of text ≡ Err e). subst (IsRight text) is (admission-right text)) gives
 
 -- what is so is answered
-pub admission-gives : (text : List ℕ) (result : Result Admission AdmitRefusal) → Gives result (admission_of text) → (a : Admission) → IsAdmissionText text a → Gives result (Ok a)
-admission-gives text result gives a is = subst (Gives result) (admission-only text a is) gives
+pub admission-gives : (text : List ℕ) (result : Result Admission AdmitRefusal) → Gives Memory result (admission_of text) → (a : Admission) → IsAdmissionText text a → Gives Memory result (Ok a)
+admission-gives text result gives a is = subst (Gives Memory result) (admission-only text a is) gives
 
-pub refused-gives : (text : List ℕ) (result : Result Admission AdmitRefusal) → Gives result (admission_of text) → (e : AdmitRefusal) → IsRefused text e → Gives result (Err e)
-refused-gives text result gives e is = subst (Gives result) (admission-refused text e is) gives
+pub refused-gives : (text : List ℕ) (result : Result Admission AdmitRefusal) → Gives Memory result (admission_of text) → (e : AdmitRefusal) → IsRefused text e → Gives Memory result (Err e)
+refused-gives text result gives e is = subst (Gives Memory result) (admission-refused text e is) gives
 
 -- what is read is well formed
-pub reads-formed : (text : List ℕ) (result : Result Admission AdmitRefusal) → Gives result (admission_of text) → IfOk result IsWellFormed
+pub reads-formed : (text : List ℕ) (result : Result Admission AdmitRefusal) → Gives Memory result (admission_of text) → IfOk result IsWellFormed
 reads-formed text (Ok a) gives = (subst (IsRight text) gives (admission-right text)).1
 reads-formed text (Err e) gives = tt

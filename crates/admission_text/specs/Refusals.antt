@@ -1,16 +1,15 @@
 -- Why a text is no admission: its first fault.
-use Rattle.std.specs.Prelude.{◌≡◌, ◌⊎◌, ℕ, ◌-◌, ◌^◌, ◌<◌, ◌≤◌, min, true, false, List, [], codes, Result, Ok, Err}
-use Rattle.outcomes.specs.Firsts.{HasFault, IsFirst}
-use Rattle.admission.specs.declared.admission.Admission.{Admission}
+use Rattle.std.specs.Prelude.{◌≡◌, ◌⊎◌, ℕ, ◌-◌, ◌^◌, min, true, false, List, [], codes}
+use Rattle.outcomes.specs.Firsts.{HasFault, IsFirst, Precedes}
 use Rattle.admission_text.specs.declared.entry.Entry.{Entry}
 use Rattle.admission_text.specs.declared.refusal.AdmitRefusal.{AdmitRefusal}
 use Rattle.admission_text.specs.declared.refusal.AdmitRefusal.TheVariants.{BadLine, TooMany, NoLive, Memory}
 use Rattle.admission_text.specs.Grammar.{IsEntry, Line, has_line, lines_of}
-use Rattle.admission_text.specs.Entries.{IsAdmissionText, goes_over}
+use Rattle.admission_text.specs.Entries.{goes_over}
 
 -- a line that spells nothing behind those before it, or one too many
-abbrev pub IsFault : List Line → Line → AdmitRefusal → Type 0
-IsFault before l e =
+abbrev pub IsLineFault : List Line → Line → AdmitRefusal → Type 0
+IsLineFault before l e =
     ((e ≡ BadLine l.number) × ((entry : Entry) → IsEntry before l.words entry → ⊥))
     ⊎ ((e ≡ TooMany l.number) × (goes_over before l.words ≡ true))
 
@@ -28,10 +27,6 @@ rank (TooMany n) = 1
 rank NoLive = 2
 rank Memory = 3
 
--- at a lesser line, or at the same line no later in the order
-abbrev pub Precedes : AdmitRefusal → AdmitRefusal → Type 0
-Precedes e other = (fault_line e < fault_line other) ⊎ ((fault_line e ≡ fault_line other) × (rank e ≤ rank other))
-
 -- a line's number as it is given: numbers above 2^32 - 1 are given as that
 abbrev pub line_number : ℕ → ℕ
 line_number n = min n (2 ^ 32 - 1)
@@ -45,23 +40,7 @@ given Memory = Memory
 
 -- the refusal of a text: its first fault, else that no line is `live`
 pub data IsRefused (text : List ℕ) (e : AdmitRefusal) : Type 0 where
-  Faulty : (first : AdmitRefusal) → IsFirst IsFault Precedes [] (lines_of text) first → e ≡ given first → IsRefused text e
-  Dead : ((other : AdmitRefusal) → HasFault IsFault [] (lines_of text) other → ⊥)
+  Faulty : (first : AdmitRefusal) → IsFirst IsLineFault (Precedes fault_line rank) [] (lines_of text) first → e ≡ given first → IsRefused text e
+  Dead : ((other : AdmitRefusal) → HasFault IsLineFault [] (lines_of text) other → ⊥)
       → has_line (codes "live") (lines_of text) ≡ false → e ≡ NoLive
       → IsRefused text e
-
--- what was answered is so; where memory was not found nothing is said
-abbrev pub Reads : List ℕ → Result Admission AdmitRefusal → Type 0
-Reads text (Ok a) = IsAdmissionText text a
-Reads text (Err Memory) = Unit {0}
-Reads text (Err (BadLine n)) = IsRefused text (BadLine n)
-Reads text (Err (TooMany n)) = IsRefused text (TooMany n)
-Reads text (Err NoLive) = IsRefused text NoLive
-
--- what is so was answered, unless memory was not found
-abbrev pub Gives : {A : Type 0} → Result A AdmitRefusal → Result A AdmitRefusal → Type 0
-Gives (Ok a) right = right ≡ Ok a
-Gives (Err Memory) right = Unit {0}
-Gives (Err (BadLine n)) right = right ≡ Err (BadLine n)
-Gives (Err (TooMany n)) right = right ≡ Err (TooMany n)
-Gives (Err NoLive) right = right ≡ Err NoLive

@@ -1,8 +1,9 @@
 //! Reads whole texts.
 ghost use Rattle.std.specs.Prelude.{◌≡◌, ◌≤◌, length, IfOk};
+ghost use Rattle.outcomes.specs.Answering.{Answers, Gives};
 ghost use Rattle.admission_text.specs.Grammar.{is_skipped, parts};
 ghost use Rattle.admission_text.specs.ReadingLines as lines;
-ghost use Rattle.admission_text.specs.Refusals.{Gives, IsRefused, Reads};
+ghost use Rattle.admission_text.specs.Refusals.{IsRefused};
 ghost use Rattle.admission_text.specs.Entries.{IsAdmissionText};
 ghost use Rattle.admission_text.specs.declared.refusal.AdmitRefusal.{AdmitRefusal};
 ghost use Rattle.admission.specs.declared.admission.Admission.{Admission};
@@ -28,7 +29,7 @@ fn is_skipped(line: &[u8]) -> bool
 // The draft behind a line of this number, which spells this.
 fn judged(line: u32, draft: Draft, entry: Option<Entry>) -> Result<Draft, AdmitRefusal>
     requires { length draft.admission.regions ≤ 8 }
-    ensures gives { Gives result (lines.judged line draft entry) }
+    ensures gives { Gives AdmitRefusal.Memory result (lines.judged line draft entry) }
     ensures few { IfOk result (λ d. length d.admission.regions ≤ 8) }
 {
     let Some(entry) = entry else {
@@ -45,7 +46,7 @@ fn judged(line: u32, draft: Draft, entry: Option<Entry>) -> Result<Draft, AdmitR
 #[tactic(auto, unfolding(crate::specs::ReadingLines::behind_line))]
 fn behind_line(alloc: Global, line: u32, draft: Draft, text: &[u8]) -> Result<Draft, AdmitRefusal>
     requires { length draft.admission.regions ≤ 8 }
-    ensures gives { Gives result (lines.behind_line line draft text.now) }
+    ensures gives { Gives AdmitRefusal.Memory result (lines.behind_line line draft text.now) }
     ensures few { IfOk result (λ d. length d.admission.regions ≤ 8) }
 {
     if is_skipped(text) {
@@ -57,7 +58,7 @@ fn behind_line(alloc: Global, line: u32, draft: Draft, text: &[u8]) -> Result<Dr
 
 // The draft behind all lines of a text.
 fn behind_lines(alloc: Global, text: &[u8]) -> Result<Draft, AdmitRefusal>
-    ensures { Gives result (lines.behind_lines 0 lines.no_draft (parts 10 text.now)) }
+    ensures { Gives AdmitRefusal.Memory result (lines.behind_lines 0 lines.no_draft (parts 10 text.now)) }
 {
     let mut draft = Draft::new(alloc);
     let mut number = 0u32;
@@ -74,7 +75,7 @@ fn behind_lines(alloc: Global, text: &[u8]) -> Result<Draft, AdmitRefusal>
 // The admission that a text spells, or its first fault.
 #[tactic(auto, unfolding(crate::specs::ReadingLines::admission_of))]
 fn admission_of(alloc: Global, text: &[u8]) -> Result<Admission, AdmitRefusal>
-    ensures { Gives result (lines.admission_of text.now) }
+    ensures { Gives AdmitRefusal.Memory result (lines.admission_of text.now) }
 {
     let draft = behind_lines(alloc, text)?;
     if !draft.lived {
@@ -90,11 +91,11 @@ fn admission_of(alloc: Global, text: &[u8]) -> Result<Admission, AdmitRefusal>
 /// wanted and not found, that is the refusal.
 pub fn read_admission(alloc: Global, text: &[u8]) -> Result<Admission, AdmitRefusal>
     // What is answered is so ..
-    ensures exact { Reads text.now result }
+    ensures exact { Answers AdmitRefusal.Memory (IsAdmissionText text.now) (IsRefused text.now) result }
 
     // .. and what is so is answered.
-    ensures only { (a : Admission) → IsAdmissionText text.now a → Gives result (Ok a) }
-    ensures refused { (e : AdmitRefusal) → IsRefused text.now e → Gives result (Err e) }
+    ensures only { (a : Admission) → IsAdmissionText text.now a → Gives AdmitRefusal.Memory result (Ok a) }
+    ensures refused { (e : AdmitRefusal) → IsRefused text.now e → Gives AdmitRefusal.Memory result (Err e) }
 
     ensures formed { IfOk result IsWellFormed }
 {

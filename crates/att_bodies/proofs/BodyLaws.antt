@@ -1,12 +1,12 @@
 -- The function that items spell, or why they spell none: what is read is right, and it is the one answer.
-use Rattle.std.proofs.Common.{◌≡◌, ℕ, ◌-◌, Bool, true, false, cond, inl, inr, List, [], ◌∷◌, ◌++◌, length, slice_get, Option, Some, None, Result, Ok, Err, refl, sym, ap, ◌∙◌, subst, arith}
+use Rattle.std.proofs.Common.{◌≡◌, ℕ, ◌-◌, ◌≤◌, Bool, true, false, cond, List, [], ◌∷◌, ◌++◌, length, slice_get, Option, Some, None, Result, Ok, Err, refl, sym, ap, ◌∙◌, subst, arith}
 use Rattle.std.specs.List.{filter, AllZip}
 use Rattle.std.specs.Option.{option_map_or}
 use Rattle.std.proofs.lemmas.Option.{same_Some}
 use Rattle.insn_ops.specs.declared.op.Op.{Op}
 use Rattle.insn_ops.specs.declared.op.Op.TheVariants.{Jmp, Ret}
 use Rattle.outcomes.specs.Firsts.{◌>>=◌}
-use Rattle.outcomes.proofs.FirstFaults.{IsOutcome, first-once}
+use Rattle.outcomes.proofs.FirstFaults.{IsOutcome, first-alone}
 use Rattle.insn_table.specs.declared.insn.Insn.{Insn}
 use Rattle.insn_table.specs.Closed.{IsLeaving}
 use Rattle.text_lines.specs.declared.refusal.ReadKind.{ReadKind}
@@ -16,12 +16,12 @@ use Rattle.text_lines.specs.Kinds.{rank, line_number}
 use Rattle.text_lines.specs.Statements.{FindsTargets, Reads}
 use Rattle.text_lines.proofs.TextItems as order
 use Rattle.att_bodies.specs.Body.{is_code, IsExtent, IsTarget}
-use Rattle.att_bodies.specs.Faults.{Fault, fault, IsFault, Precedes, HasBodyFault, IsFirstFault}
+use Rattle.att_bodies.specs.Faults.{Fault, fault, IsItemFault, FaultPrecedes, HasBodyFault, IsFirstFault}
 use Rattle.att_bodies.specs.Functions.{Spells, AreInsns, Leaves, last_line, IsFunction, AreRefused, Missing, Faulty, Open}
 use Rattle.att_bodies.specs.Reading.{target_of, extent_of, insns_of, is_leaving, leaves, closed_by, read_extent, insns_in}
 use Rattle.att_bodies.proofs.Extents.{IsFoundExtent, extent-known, extent-only, extent-named}
 use Rattle.att_bodies.proofs.Targets.{finds-targets}
-use Rattle.att_bodies.proofs.Outcomes.{IsRead, insns-outcome, insns-read}
+use Rattle.att_bodies.proofs.Outcomes.{IsRead, insns-outcome, insns-read, later-rank}
 
 -- instructions that leave
 
@@ -77,16 +77,10 @@ rank-once a b e = same_Some a b (sym (kind-at a) ∙ ap (slice_get kinds) e ∙ 
 fault-once : (a b : Fault) → a.line ≡ b.line → a.kind ≡ b.kind → a ≡ b
 fault-once a b lines kinds_too = ap (λ (k : ℕ). fault k a.kind) lines ∙ ap (fault b.line) kinds_too
 
--- two faults that precede each other are one
-precedes-once : (a b : Fault) → Precedes a b → Precedes b a → a ≡ b
-precedes-once a b (inl less) (inl more) = absurd (omega arith)
-precedes-once a b (inl less) (inr same) = absurd (omega (arith, same.0))
-precedes-once a b (inr same) (inl more) = absurd (omega (arith, same.0))
-precedes-once a b (inr one) (inr two) = fault-once a b one.0 (rank-once a.kind b.kind (omega (arith, one.1, two.1)))
-
 -- there is one first fault
 first-fault-once : (IsBad : List ℕ → ReadKind → Type 0) (body : List Item) (a b : Fault) → IsFirstFault IsBad body a → IsFirstFault IsBad body b → a ≡ b
-first-fault-once IsBad body a b one two = first-once (IsFault IsBad) Precedes [] body (λ x y _ _ p q. precedes-once x y p q) a b one two
+first-fault-once IsBad body a b one two =
+    first-alone (IsItemFault IsBad) (λ (f : Fault). f.line) (λ (f : Fault). rank f.kind) [] body (λ x y _ _ lines ranks. fault-once x y lines (rank-once x.kind y.kind ranks)) a b one two
 
 all-once : {A B : Type 0} (R : A → B → Type 0) → ((x : A) (a b : B) → R x a → R x b → a ≡ b) → (xs : List A) (ys zs : List B) → AllZip R xs ys → AllZip R xs zs → ys ≡ zs
 all-once R once [] [] [] one two = refl
@@ -131,7 +125,7 @@ module _ {r : (List ℕ → Option ℕ) → List ℕ → ℕ → Result Insn Rea
   closed-right name lines items body after insns false e extent sound read = Open body after insns extent sound read (leaves-only insns e) refl
 
   body-right : (name : List ℕ) (lines : ℕ) (items body after : List Item) (found : Result (List Insn) Fault) → IsExtent name items body after
-      → IsOutcome (IsFault (IsBad (IsTarget body))) Precedes (IsRead (IsInsn (IsTarget body))) [] body found
+      → IsOutcome (IsItemFault (IsBad (IsTarget body))) FaultPrecedes (IsRead (IsInsn (IsTarget body))) [] body found
       → IsRight name lines items (found >>= closed_by lines body after)
   body-right name lines items body after (Ok insns) extent out =
       closed-right name lines items body after insns (leaves insns) refl extent out.1 (insns-read (reads_body body) [] body insns out.0)
@@ -173,6 +167,12 @@ module _ {r : (List ℕ → Option ℕ) → List ℕ → ℕ → Result Insn Rea
       let same = same-extent name items body after f.body f.after extent f.extent in
       let insns_same = insns-once f.body others insns (subst (λ (x : List Item). AreInsns (IsInsn (IsTarget x)) x others) same.0 read) f.read in
       open_end (subst Leaves (sym insns_same) f.leaves)
+
+  -- memory is no cause for which items are refused
+  pub refused-rank : (name : List ℕ) (lines : ℕ) (items : List Item) (e : Fault) → AreRefused IsBad IsInsn name lines items e → 3 ≤ rank e.kind
+  refused-rank name lines items e (Missing none is) = let same : rank e.kind ≡ 3 = ap (λ (f : Fault). rank f.kind) is in omega arith
+  refused-rank name lines items e (Faulty body after extent first) = omega (arith, later-rank (reads_body body) [] body e first.has)
+  refused-rank name lines items e (Open body after insns extent sound read open_end is) = let same : rank e.kind ≡ 12 = ap (λ (f : Fault). rank f.kind) is in omega arith
 
   -- and are refused in one way
   pub refused-once : (name : List ℕ) (lines : ℕ) (items : List Item) (a b : Fault) → AreRefused IsBad IsInsn name lines items a → AreRefused IsBad IsInsn name lines items b → a ≡ b

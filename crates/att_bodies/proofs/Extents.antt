@@ -110,6 +110,14 @@ named-some : (name : List ℕ) (before : List Item) (start : Item) (rest : List 
 named-some name [] start rest named none = both_ways (is_label name start) (or_parts (is_label name start) _ none).0 named
 named-some name (b ∷ bs) start rest named none = named-some name bs start rest named (or_parts (is_label name b) _ none).1
 
+-- what was found is the extent
+pub extent-found : (name : List ℕ) (items body after : List Item) → Some (body, after) ≡ extent_of name items → IsExtent name items body after
+extent-found name items body after is = subst (IsFoundExtent name items) (sym is) (extent-known name items)
+
+-- where none was found no label has the name
+pub extent-none : (name : List ℕ) (items : List Item) → None ≡ extent_of name items → list_any (is_label name) items ≡ false
+extent-none name items is = subst (IsFoundExtent name items) (sym is) (extent-known name items)
+
 -- where there is a body there is a label
 pub extent-named : (name : List ℕ) (items body after : List Item) → IsExtent name items body after → list_any (is_label name) items ≡ false → ⊥
 extent-named name items body after h none =

@@ -1,7 +1,7 @@
 -- What is wrong with single items of a body, and the first such fault.
-use Rattle.std.specs.Prelude.{◌≡◌, ◌⊎◌, ℕ, ◌<◌, ◌≤◌, Bool, true, false, List, [], ◌∷◌, codes, bytes_eq}
+use Rattle.std.specs.Prelude.{◌≡◌, ◌⊎◌, ℕ, ◌≤◌, Bool, true, false, List, [], ◌∷◌, codes, bytes_eq}
 use Rattle.std.specs.List.{list_any, count_by}
-use Rattle.outcomes.specs.Firsts.{HasFault, IsFirst}
+use Rattle.outcomes.specs.Firsts.{HasFault, IsFirst, Precedes}
 use Rattle.text_lines.specs.declared.refusal.ReadKind.{ReadKind}
 use Rattle.text_lines.specs.declared.refusal.ReadKind.TheVariants.{TwiceLabel, DataInBody, TooManyInsns}
 use Rattle.text_lines.specs.Words.{is_solid, prefix_of}
@@ -32,21 +32,21 @@ is_data x = list_any (λ word. bytes_eq word (prefix_of is_solid x)) data_words
 
 -- A fault of an item of a body behind those before it. IsBad says what is wrong with the text of an instruction.
 -- A label that stands before; data; a bad instruction; one behind 4,096 others.
-abbrev pub IsFault : (List ℕ → ReadKind → Type 0) → List Item → Item → Fault → Type 0
-IsFault IsBad before (Label name k) e = (e ≡ fault k TwiceLabel) × (list_any (is_label name) before ≡ true)
-IsFault IsBad before (Statement x k) e =
+abbrev pub IsItemFault : (List ℕ → ReadKind → Type 0) → List Item → Item → Fault → Type 0
+IsItemFault IsBad before (Label name k) e = (e ≡ fault k TwiceLabel) × (list_any (is_label name) before ≡ true)
+IsItemFault IsBad before (Statement x k) e =
     ((e ≡ fault k DataInBody) × (is_directive x ≡ true) × (is_data x ≡ true))
     ⊎ (((is_directive x ≡ false) × (e.line ≡ k) × IsBad x e.kind)
     ⊎ ((e ≡ fault k TooManyInsns) × (is_directive x ≡ false) × (4096 ≤ count_by is_code before)))
 
 -- on a lesser line, or on the same line and of a kind that is told no later
-abbrev pub Precedes : Fault → Fault → Type 0
-Precedes e other = (e.line < other.line) ⊎ ((e.line ≡ other.line) × (rank e.kind ≤ rank other.kind))
+abbrev pub FaultPrecedes : Fault → Fault → Type 0
+FaultPrecedes e other = Precedes (λ (f : Fault). f.line) (λ (f : Fault). rank f.kind) e other
 
 -- something is wrong with an item of the body
 abbrev pub HasBodyFault : (List ℕ → ReadKind → Type 0) → List Item → Fault → Type 0
-HasBodyFault IsBad body e = HasFault (IsFault IsBad) [] body e
+HasBodyFault IsBad body e = HasFault (IsItemFault IsBad) [] body e
 
 -- the first fault of the body
 abbrev pub IsFirstFault : (List ℕ → ReadKind → Type 0) → List Item → Fault → Type 0
-IsFirstFault IsBad body e = IsFirst (IsFault IsBad) Precedes [] body e
+IsFirstFault IsBad body e = IsFirst (IsItemFault IsBad) FaultPrecedes [] body e

@@ -1,10 +1,10 @@
 //! Where the body of a function begins and ends.
-ghost use Rattle.std.specs.Prelude.{◌≡◌, ◌==◌, map, bytes_eq};
+ghost use Rattle.std.specs.Prelude.{◌≡◌, ◌==◌, false, map, bytes_eq, IfNone, IfSome};
 ghost use Rattle.std.specs.Option.{option_map};
 ghost use Rattle.std.specs.List.{list_any};
 ghost use Rattle.text_lines.specs.Words.{prefix_of};
 ghost use Rattle.text_lines.specs.Views.{seen};
-ghost use Rattle.att_bodies.specs.Body.{is_label, is_directive, is_local, is_symbol_byte, symbol_of, ends_function, ends_body, is_code};
+ghost use Rattle.att_bodies.specs.Body.{is_label, is_directive, is_local, is_symbol_byte, symbol_of, ends_function, ends_body, is_code, IsExtent};
 ghost use Rattle.att_bodies.specs.Faults.{is_data};
 ghost use Rattle.att_bodies.specs.Functions.{line_of, last_line};
 ghost use Rattle.att_bodies.specs.Reading.{behind_body, body_split, extent_of, count_of, leaves};
@@ -168,8 +168,13 @@ pub fn extent<'i, 't>(
     name: &[u8],
     items: &'i [Item<'t>],
 ) -> Option<(&'i [Item<'t>], &'i [Item<'t>])>
-    ensures { option_map (λ found. (map seen found.0.now, map seen found.1.now)) result
+    ensures read { option_map (λ found. (map seen found.0.now, map seen found.1.now)) result
         ≡ extent_of name.now (map seen items.now) }
+
+    // Which items these are, by their places: from the first label of the name up to one that ends it.
+    ensures found { IfSome result (λ found. IsExtent name.now (map seen items.now)
+        (map seen found.0.now) (map seen found.1.now)) }
+    ensures none { IfNone result (list_any (is_label name.now) (map seen items.now) ≡ false) }
 {
     let mut rest = items;
     while let [item, after @ ..] = rest {

@@ -1,21 +1,19 @@
 -- The text of an instruction gives one of the table, which jumps to places that labels lead to.
-use Rattle.std.proofs.Common.{◌≡◌, ◌≢◌, ℕ, ◌-◌, ◌<◌, ◌≤◌, Bool, true, false, cond, eqb, ◌&&◌, ◌||◌, if◌then◌else◌, ◌⊎◌, inl, inr, List, [], ◌∷◌, ◌++◌, length, replicate, Option, Some, None, Result, Ok, Err, IfSome, slice_get, zero, suc, refl, sym, ap, ◌∙◌, subst, arith}
+use Rattle.std.proofs.Common.{◌≡◌, ℕ, ◌-◌, ◌<◌, ◌≤◌, Bool, true, false, cond, eqb, ◌&&◌, ◌||◌, if◌then◌else◌, inl, inr, List, [], ◌∷◌, ◌++◌, length, replicate, Option, Some, None, Ok, Err, IfSome, zero, suc, sym, subst, arith}
 use Rattle.std.specs.List.{AllByRecursion}
 use Rattle.std.proofs.lemmas.Option.{slice_get_within}
 use Rattle.insn_ops.specs.declared.op.Op.{Op}
 use Rattle.insn_table.specs.declared.insn.Operand.{Operand}
-use Rattle.insn_table.specs.declared.insn.Operand.TheVariants.{Reg, Imm, Mem, Vec, Pool, Target, Nothing}
+use Rattle.insn_table.specs.declared.insn.Operand.TheVariants.{Reg, Vec, Nothing}
 use Rattle.insn_table.specs.declared.insn.Insn.{Insn}
-use Rattle.insn_spellings.specs.declared.shape.Shape.{Shape}
-use Rattle.insn_table.specs.declared.fitting.Misfit.{Misfit}
 use Rattle.insn_table.specs.declared.fitting.Misfit.TheVariants as misfits
 use Rattle.insn_table.specs.Classes.{Form, numbers_fit}
-use Rattle.insn_table.specs.Forms.{chosen, is_shift, is_lone, counted_once, completed, insn_of, found_form, judged_by, fits_of}
+use Rattle.insn_table.specs.Forms.{chosen, is_shift, is_lone, counted_once, completed, insn_of, found_form, judged_by}
 use Rattle.insn_table.specs.Table.{IsScale, HasRegisters, IsTableInsn}
 use Rattle.insn_table.specs.Closed.{IsInside}
 use Rattle.insn_table.proofs.TableInsns.{fitted-insn}
-use Rattle.att_statements.specs.Operands.{register_names, IsRegisterText, IsAddressRegister, IsBase, IsIndex, IsScaleText, AreAddressParts, IsMemoryText, Written, Immediate, Label, Plain, IsOperandText, IsOperandPart}
-use Rattle.att_statements.specs.Statements.{AreWritten, StandsFor, StandFor, HasPlace, four, IsMade, IsInsnText}
+use Rattle.att_statements.specs.Operands.{register_names, IsRegisterText, IsBase, IsIndex, AreAddressParts, Written, Immediate, Label, Plain, IsOperandText, IsOperandPart}
+use Rattle.att_statements.specs.Statements.{AreWritten, StandsFor, StandFor, HasPlace, four, IsInsnText}
 
 -- what an operand of a function of n instructions may be
 abbrev IsClosedOperand : ℕ → Operand → Type 0

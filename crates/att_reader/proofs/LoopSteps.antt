@@ -1,76 +1,34 @@
 -- Single turns of the code: items of a body that are read one after another, and what is told of a whole body.
-use Rattle.std.proofs.Common.{◌≡◌, ℕ, ◌+◌, ◌<◌, ◌≤◌, Bool, true, false, cond, ltb, not, List, [], ◌∷◌, ◌++◌, length, take, drop, get_or, map, Option, Some, None, Result, Ok, Err, refl, sym, ap, ◌∙◌, subst, append-nil, append_assoc, add-one, drop-cons, arith}
+use Rattle.std.proofs.Common.{◌≡◌, ℕ, ◌+◌, ◌<◌, ◌≤◌, Bool, true, false, cond, ltb, not, ◌⊎◌, inr, List, [], ◌∷◌, ◌++◌, length, take, drop, get_or, map, Some, None, Result, Ok, Err, refl, sym, ap, ◌∙◌, subst, append-nil, append_assoc, add-one, drop-cons, arith}
 use Rattle.std.specs.List.{list_any, count_by}
 use Rattle.std.proofs.Math.Seq.{take-suc}
 use Rattle.std.proofs.Math.ListN.{drop_of_length-le}
 use Rattle.std.proofs.lemmas.List.{length-map, length-append, take-map, drop-map, map-append}
 use Rattle.outcomes.specs.Firsts.{◌>>=◌, all_of}
+use Rattle.outcomes.proofs.Answering.{unless-map}
 use Rattle.insn_table.specs.declared.insn.Insn.{Insn}
 use Rattle.text_lines.specs.declared.refusal.ReadKind.{ReadKind}
-use Rattle.text_lines.specs.declared.refusal.ReadKind.TheVariants.{Memory, NotUtf8, LineLong, NoFunction, TwiceLabel, DataInBody, UnknownInstruction, PoolRefused, BadOperand, BadNumber, UnknownLabel, TooManyInsns, FallsOff}
+use Rattle.text_lines.specs.declared.refusal.ReadKind.TheVariants.{NoFunction, TwiceLabel, DataInBody, TooManyInsns, FallsOff}
 use Rattle.text_lines.specs.declared.refusal.ReadRefusal.{ReadRefusal}
 use Rattle.text_lines.specs.declared.items.Item.{Item as KeptItem}
 use Rattle.text_lines.specs.Lines.{Item, Label, Statement}
-use Rattle.text_lines.specs.Kinds.{rank, refusal, line_number, out_of_memory}
-use Rattle.text_lines.specs.Statements.{Reads}
+use Rattle.text_lines.specs.Kinds.{refusal, line_number, out_of_memory}
 use Rattle.text_lines.specs.Views.{seen}
 use Rattle.text_lines.specs.Cutting.{items_of_text}
 use Rattle.std.specs.Str.Lines.{lines}
-use Rattle.att_bodies.specs.Body.{is_label, is_directive, is_code, IsTarget}
+use Rattle.att_bodies.specs.Body.{is_label, is_directive, is_code}
 use Rattle.att_bodies.specs.Faults.{Fault, fault, is_data}
 use Rattle.att_bodies.specs.Functions.{last_line}
-use Rattle.att_bodies.specs.Reading.{target_of, extent_of, insns_of, item_of, at_line, counted, leaves, insns_in}
+use Rattle.att_bodies.specs.Reading.{target_of, extent_of, item_of, at_line, counted, leaves, insns_in}
 use Rattle.att_bodies.proofs.Counts.{count-push}
-use Rattle.att_bodies.proofs.Targets.{finds-targets}
-use Rattle.att_bodies.proofs.Outcomes.{item-rank}
-use Rattle.att_statements.specs.Statements.{IsInsnText, IsBadStatement}
-use Rattle.att_statements.proofs.StatementTexts.{statements-read}
 use Rattle.att_statements.specs.ReadingStatements.{statement_of}
-use Rattle.att_reader.specs.Answers.{UnlessMemory, Gives}
-use Rattle.att_reader.specs.Reading.{told, listed, single, item_in, body_in, body_from, Grows, insns_of_text}
+use Rattle.att_reader.specs.Reading.{told, item_in, body_in, body_from, Grows, insns_of_text}
 
 -- answers
 
--- what follows from what is said unless memory was not found
-pub unless-map : {P Q : Type 0} (kind : ReadKind) (line : ℕ) → (P → Q) → UnlessMemory kind line P → UnlessMemory kind line Q
-unless-map Memory line f h = h
-unless-map NotUtf8 line f h = f h
-unless-map LineLong line f h = f h
-unless-map NoFunction line f h = f h
-unless-map TwiceLabel line f h = f h
-unless-map DataInBody line f h = f h
-unless-map UnknownInstruction line f h = f h
-unless-map PoolRefused line f h = f h
-unless-map BadOperand line f h = f h
-unless-map BadNumber line f h = f h
-unless-map UnknownLabel line f h = f h
-unless-map TooManyInsns line f h = f h
-unless-map FallsOff line f h = f h
-
--- what is said of out of memory
-pub unless-memory : (P : Type 0) (e : ReadRefusal) → e ≡ out_of_memory → UnlessMemory e.kind e.line P
-unless-memory P e is = subst (λ (x : ReadRefusal). UnlessMemory x.kind x.line P) (sym is) refl
-
--- what is said of other kinds
-unless-known : {P : Type 0} (kind : ReadKind) (line : ℕ) → 0 < rank kind → P → UnlessMemory kind line P
-unless-known Memory line some h = absurd (omega arith)
-unless-known NotUtf8 line some h = h
-unless-known LineLong line some h = h
-unless-known NoFunction line some h = h
-unless-known TwiceLabel line some h = h
-unless-known DataInBody line some h = h
-unless-known UnknownInstruction line some h = h
-unless-known PoolRefused line some h = h
-unless-known BadOperand line some h = h
-unless-known BadNumber line some h = h
-unless-known UnknownLabel line some h = h
-unless-known TooManyInsns line some h = h
-unless-known FallsOff line some h = h
-
 -- a refusal that is told as this kind
-pub refused-is : (P : ReadRefusal → Type 0) (e : ReadRefusal) (k : ℕ) (kind : ReadKind) → 0 < rank kind → e ≡ refusal k kind → P (refusal k kind) → UnlessMemory e.kind e.line (P e)
-refused-is P e k kind some is h =
-    subst (λ (x : ReadRefusal). UnlessMemory x.kind x.line (P x)) (sym is) (unless-known kind (line_number k) some h)
+pub refused-is : (P : ReadRefusal → Type 0) (e : ReadRefusal) (k : ℕ) (kind : ReadKind) → e ≡ refusal k kind → P (refusal k kind) → (e ≡ out_of_memory) ⊎ P e
+refused-is P e k kind is h = inr (subst P (sym is) h)
 
 err_same : {V : Type 0} (a b : ReadRefusal) → ◌≡◌ {A = Result V ReadRefusal} (Err a) (Err b) → a ≡ b
 err_same a b h = cc
@@ -86,13 +44,6 @@ told-ok (Err f) v h = cc
 
 -- single items
 
-reads_body : (body : List Item) → Reads (statement_of (target_of body)) (IsBadStatement (IsTarget body)) (IsInsnText (IsTarget body))
-reads_body body = statements-read (target_of body) (IsTarget body) (finds-targets body)
-
-item_known : (body before : List Item) (i : Item) (f : Fault) → item_in body before i ≡ Err f → 0 < rank f.kind
-unfolding item_in
-item_known body before i f is = omega (arith, item-rank (reads_body body) before i f is)
-
 -- an item that gives an instruction
 pub next-some : (o : Result (List Insn) Fault) (i : Insn) (old new : List Insn) → Ok (i ∷ []) ≡ told o → new ≡ old ++ i ∷ [] → Grows o old new
 next-some o i old new is more = subst (λ x. Grows x old new) (sym (told-ok o (i ∷ []) (sym is))) more
@@ -102,11 +53,8 @@ pub next-none : (o : Result (List Insn) Fault) (old : List Insn) → Ok [] ≡ t
 next-none o old is = subst (λ x. Grows x old old) (sym (told-ok o [] (sym is))) (sym (append-nil old))
 
 -- an item that is at fault
-pub next-stops : (body before : List Item) (i : Item) (e : ReadRefusal) → Err e ≡ told (item_in body before i) → UnlessMemory e.kind e.line (told (item_in body before i) ≡ Err e)
-next-stops body before i e is =
-    let f = told-err (item_in body before i) e (sym is) in
-    let kinds : e.kind ≡ f.0.kind = ap (λ (x : ReadRefusal). x.kind) f.2 in
-    unless-known e.kind e.line (subst (λ kind. 0 < rank kind) (sym kinds) (item_known body before i f.0 f.1)) (sym is)
+pub next-stops : (body before : List Item) (i : Item) (e : ReadRefusal) → Err e ≡ told (item_in body before i) → (e ≡ out_of_memory) ⊎ (told (item_in body before i) ≡ Err e)
+next-stops body before i e is = inr (sym is)
 
 -- items
 
@@ -257,12 +205,12 @@ turn-goes kept n d labels insns new same within grows before =
     (sym (turn-next kept n d within insns new moved) ∙ before.0, turn-counts kept n d insns new within before.1 moved)
 
 pub turn-fails : (kept : List KeptItem) (n : ℕ) (d : KeptItem) (labels : List Item) (insns : List Insn) (e : ReadRefusal) → labels ≡ map seen kept → n < length kept
-    → UnlessMemory e.kind e.line (told (item_in labels (take n labels) (seen (get_or kept n d))) ≡ Err e)
+    → ((e ≡ out_of_memory) ⊎ (told (item_in labels (take n labels) (seen (get_or kept n d))) ≡ Err e))
     → body_from (map seen kept) (take n (map seen kept)) (drop n (map seen kept)) insns ≡ body_in (map seen kept)
-    → UnlessMemory e.kind e.line (told (body_in (map seen kept)) ≡ Err e)
+    → ((e ≡ out_of_memory) ⊎ (told (body_in (map seen kept)) ≡ Err e))
 turn-fails kept n d labels insns e same within stops before =
-    let moved = subst (λ (x : List Item). UnlessMemory e.kind e.line (told (item_in x (take n x) (seen (get_or kept n d))) ≡ Err e)) same stops in
-    unless-map e.kind e.line (λ h. ap told (sym before) ∙ turn-stops kept n d within insns e h) moved
+    let moved = subst (λ (x : List Item). ((e ≡ out_of_memory) ⊎ (told (item_in x (take n x) (seen (get_or kept n d))) ≡ Err e))) same stops in
+    unless-map (λ h. ap told (sym before) ∙ turn-stops kept n d within insns e h) moved
 
 pub turn-last : (kept : List KeptItem) (n : ℕ) (insns : List Insn) → length kept ≤ n
     → body_from (map seen kept) (take n (map seen kept)) (drop n (map seen kept)) insns ≡ body_in (map seen kept) → told (body_in (map seen kept)) ≡ Ok insns
@@ -282,9 +230,9 @@ module _ (text name : List ℕ) (items slice : List KeptItem) (is : map seen ite
     found_there : extent_of name (items_of_text text) ≡ Some (body, after)
     found_there = ap (extent_of name) (sym kept_items) ∙ sym found
 
-    pub whole-stops : (e : ReadRefusal) → UnlessMemory e.kind e.line (told (body_in body) ≡ Err e) → UnlessMemory e.kind e.line (told (insns_of_text text name) ≡ Err e)
+    pub whole-stops : (e : ReadRefusal) → ((e ≡ out_of_memory) ⊎ (told (body_in body) ≡ Err e)) → ((e ≡ out_of_memory) ⊎ (told (insns_of_text text name) ≡ Err e))
     unfolding insns_of_text
-    whole-stops e stops = unless-map e.kind e.line (text-stops name (length (lines text)) (items_of_text text) body after found_there e) stops
+    whole-stops e stops = unless-map (text-stops name (length (lines text)) (items_of_text text) body after found_there e) stops
 
     pub whole-closed : (insns : List Insn) → told (body_in body) ≡ Ok insns → leaves insns ≡ true → told (insns_of_text text name) ≡ Ok insns
     unfolding insns_of_text

@@ -1,16 +1,15 @@
 -- What is read of a whole text is right, and only that is.
-use Rattle.std.proofs.Common.{◌≡◌, ℕ, Bool, true, false, List, [], length, Result, Ok, Err, refl, sym, ap, ◌∙◌, subst}
-use Rattle.std.specs.List.{list_any}
-use Rattle.std.specs.Str.{IsUtf8}
+use Rattle.std.proofs.Common.{◌≡◌, ℕ, ◌<◌, List, [], length, Result, Ok, Err, sym, ap, ◌∙◌, subst, arith}
 use Rattle.std.specs.Str.Lines.{lines}
+use Rattle.outcomes.specs.Answering.{Answers, Gives}
+use Rattle.outcomes.proofs.Answering.{unless-map}
 use Rattle.insn_table.specs.declared.insn.Insn.{Insn}
 use Rattle.insn_table.specs.declared.insn.Function.{Function}
-use Rattle.text_lines.specs.declared.refusal.ReadKind.{ReadKind}
-use Rattle.text_lines.specs.declared.refusal.ReadKind.TheVariants.{NotUtf8, LineLong}
+use Rattle.text_lines.specs.declared.refusal.ReadKind.TheVariants.{Memory, NotUtf8, LineLong}
 use Rattle.text_lines.specs.declared.refusal.ReadRefusal.{ReadRefusal}
 use Rattle.text_lines.specs.Lines.{Item}
-use Rattle.text_lines.specs.Texts.{AreItems, IsNotUtf8, is_long, IsLongLine}
-use Rattle.text_lines.specs.Kinds.{refusal}
+use Rattle.text_lines.specs.Texts.{AreItems}
+use Rattle.text_lines.specs.Kinds.{out_of_memory, rank, refusal}
 use Rattle.text_lines.specs.Cutting.{items_of_text}
 use Rattle.text_lines.proofs.TextItems.{items-known, items-only, items-ordered}
 use Rattle.text_lines.proofs.TextFaults.{utf8-once, utf8-differs, long-once, short-differs}
@@ -18,12 +17,10 @@ use Rattle.att_bodies.specs.Faults.{Fault}
 use Rattle.att_bodies.specs.Functions as body
 use Rattle.att_bodies.proofs.BodyLaws as laws
 use Rattle.att_statements.specs.Statements.{IsInsnText, IsBadStatement}
-use Rattle.att_statements.specs.ReadingStatements.{statement_of}
 use Rattle.att_statements.proofs.StatementTexts.{statements-read}
 use Rattle.att_reader.specs.FunctionText.{IsLegible, IsFunctionText, IsRefused, NoText, Long, Faulty}
-use Rattle.att_reader.specs.Answers.{UnlessMemory, Reads, Gives}
 use Rattle.att_reader.specs.Reading.{told, insns_of_text}
-use Rattle.att_reader.proofs.LoopSteps.{unless-map, told-err, told-ok}
+use Rattle.att_reader.proofs.LoopSteps.{told-err, told-ok}
 
 -- what was read of a text's items is right
 abbrev IsRightText : List ℕ → List ℕ → Result (List Insn) Fault → Type 0
@@ -99,12 +96,25 @@ refused-once text name a b (Faulty legible items holds fault refused is) (Faulty
     let once = laws.refused-once statements-read name (length (lines text)) others fault wrong moved refused_too in
     is ∙ ap (λ (f : Fault). refusal f.line f.kind) once ∙ sym too
 
+-- and never because memory was not found
+pub refused-found : (text name : List ℕ) (e : ReadRefusal) → IsRefused text name e → e.kind ≡ Memory → ⊥
+refused-found text name e refused is = let none : rank e.kind ≡ 0 = ap rank is in let some = refused_rank refused in omega arith
+  where
+    refused_rank : IsRefused text name e → 0 < rank e.kind
+    refused_rank (NoText k bad told_is) = let same : rank e.kind ≡ 1 = ap (λ (x : ReadRefusal). rank x.kind) told_is in omega arith
+    refused_rank (Long utf8 k long told_is) = let same : rank e.kind ≡ 2 = ap (λ (x : ReadRefusal). rank x.kind) told_is in omega arith
+    refused_rank (Faulty legible items holds fault refused told_is) =
+        let same : rank e.kind ≡ rank fault.kind = ap (λ (x : ReadRefusal). rank x.kind) told_is in
+        omega (arith, laws.refused-rank statements-read name (length (lines text)) items fault refused)
+
 -- what is so was answered
 
-pub gives-function : (text name : List ℕ) (r : Result Function ReadRefusal) → Reads text name r → (f : Function) → IsFunctionText text name f → Gives r (Ok f)
+pub gives-function : (text name : List ℕ) (r : Result Function ReadRefusal) → Answers out_of_memory (IsFunctionText text name) (IsRefused text name) r
+    → (f : Function) → IsFunctionText text name f → Gives out_of_memory r (Ok f)
 gives-function text name (Ok g) h f one = ap (λ (x : Function). Ok x) (text-once text name f g one h)
-gives-function text name (Err e) h f one = unless-map e.kind e.line (λ refused. absurd (text-differs text name f e one refused)) h
+gives-function text name (Err e) h f one = unless-map (λ (refused : IsRefused text name e). absurd (text-differs text name f e one refused)) h
 
-pub gives-refusal : (text name : List ℕ) (r : Result Function ReadRefusal) → Reads text name r → (e : ReadRefusal) → IsRefused text name e → Gives r (Err e)
+pub gives-refusal : (text name : List ℕ) (r : Result Function ReadRefusal) → Answers out_of_memory (IsFunctionText text name) (IsRefused text name) r
+    → (e : ReadRefusal) → IsRefused text name e → Gives out_of_memory r (Err e)
 gives-refusal text name (Ok f) h e refused = absurd (text-differs text name f e h refused)
-gives-refusal text name (Err other) h e refused = unless-map other.kind other.line (λ told_one. ap (λ (x : ReadRefusal). Err x) (refused-once text name e other refused told_one)) h
+gives-refusal text name (Err other) h e refused = unless-map (λ (told_one : IsRefused text name other). ap (λ (x : ReadRefusal). Err x) (refused-once text name e other refused told_one)) h

@@ -1,3 +1,2 @@
 pub mod FunctionText
-pub mod Answers
 pub mod Reading

@@ -1,12 +1,12 @@
 //! Reads the instructions of a function's body.
-ghost use Rattle.std.specs.Prelude.{◌≡◌, map, take, OnOk, IfErr, vec_len};
+ghost use Rattle.std.specs.Prelude.{◌≡◌, ◌⊎◌, map, take, OnOk, IfErr, vec_len};
 ghost use Rattle.std.specs.List.{count_by};
-ghost use Rattle.text_lines.specs.Kinds.{refusal};
+ghost use Rattle.outcomes.specs.Answering.{Gives};
+ghost use Rattle.text_lines.specs.Kinds.{out_of_memory, refusal};
 ghost use Rattle.text_lines.specs.Views.{seen};
 ghost use Rattle.att_bodies.specs.Body.{is_code};
 ghost use Rattle.att_bodies.specs.Labelled.{labelled};
 ghost use Rattle.att_bodies.specs.Reading.{target_of};
-ghost use Rattle.att_reader.specs.Answers.{UnlessMemory, Gives};
 ghost use Rattle.att_reader.specs.Reading.{told, listed, single, insn_on, item_in, body_in, Grows};
 
 use att_bodies::{BodyLabels, is_data, is_directive};
@@ -92,8 +92,8 @@ fn read_next(
     requires { vec_len insns.old ≡ count_by is_code (take place (labelled labels.now)) }
     ensures grows { OnOk result (Grows (item_in (labelled labels.now) (take place (labelled labels.now)) (seen item.now))
         insns.old.items insns.new.items) }
-    ensures stops { IfErr result (λ e. UnlessMemory e.kind e.line
-        (told (item_in (labelled labels.now) (take place (labelled labels.now)) (seen item.now)) ≡ Err e)) }
+    ensures stops { IfErr result (λ e. (e ≡ out_of_memory)
+        ⊎ (told (item_in (labelled labels.now) (take place (labelled labels.now)) (seen item.now)) ≡ Err e)) }
 {
     if let Some(insn) = read_item(item, place, insns.len(), labels)? {
         insns.push(insn)?;
@@ -103,7 +103,7 @@ fn read_next(
 
 /// The instructions of a body, or its first fault.
 pub(crate) fn read_body(alloc: Global, body: &[Item<'_>]) -> Result<Insns, ReadRefusal>
-    ensures { Gives result (told (body_in (map seen body.now))) }
+    ensures { Gives out_of_memory result (told (body_in (map seen body.now))) }
 {
     let labels = BodyLabels::of(alloc, body)?;
     let mut insns = Vec::new(alloc);

@@ -1,10 +1,12 @@
 //! The laws of function text.
 ghost use Rattle.std.specs.Prelude.{◌≡◌, ℕ, List};
 ghost use Rattle.insn_table.specs.declared.insn.Function.{Function};
+ghost use Rattle.text_lines.specs.declared.refusal.ReadKind.TheVariants.{Memory};
 ghost use Rattle.text_lines.specs.declared.refusal.ReadRefusal.{ReadRefusal};
 ghost use Rattle.att_reader.specs.FunctionText.{IsFunctionText, IsRefused};
 
-/// A law: a text spells at most one function of a name, is refused in at most one way, and not both.
+/// A law: a text spells at most one function of a name, is refused in at most one way, and not both. No text
+/// is refused because memory was not found.
 pub fn texts_have_one_meaning()
     ensures function { (text name : List ℕ) (f g : Function)
         → IsFunctionText text name f → IsFunctionText text name g → f ≡ g }
@@ -12,4 +14,5 @@ pub fn texts_have_one_meaning()
         → IsFunctionText text name f → IsRefused text name e → ⊥ }
     ensures refusal { (text name : List ℕ) (a b : ReadRefusal)
         → IsRefused text name a → IsRefused text name b → a ≡ b }
+    ensures not_memory { (text name : List ℕ) (e : ReadRefusal) → IsRefused text name e → e.kind ≡ Memory → ⊥ }
 {}

@@ -1,10 +1,11 @@
 //! Reads the function of a name from a whole text.
 ghost use Rattle.std.specs.Prelude.{◌≡◌, IfOk};
+ghost use Rattle.outcomes.specs.Answering.{Answers, Gives};
 ghost use Rattle.insn_table.specs.Closed.{IsClosed};
 ghost use Rattle.insn_table.specs.declared.insn.Function.{Function};
 ghost use Rattle.text_lines.specs.declared.refusal.ReadRefusal.{ReadRefusal};
+ghost use Rattle.text_lines.specs.Kinds.{out_of_memory};
 ghost use Rattle.att_reader.specs.FunctionText.{IsFunctionText, IsRefused};
-ghost use Rattle.att_reader.specs.Answers.{Reads, Gives};
 ghost use Rattle.att_reader.specs.Reading.{told, insns_of_text};
 
 use crate::body::{read_body, refused};
@@ -16,7 +17,7 @@ use text_lines::{ReadKind, ReadRefusal, items_in, long_line, wrong_line};
 
 /// The instructions of the function of this name, or the first fault of the text's items.
 fn insns_in(alloc: Global, text: &[u8], name: &[u8]) -> Result<Insns, ReadRefusal>
-    ensures { Gives result (told (insns_of_text text.now name.now)) }
+    ensures { Gives out_of_memory result (told (insns_of_text text.now name.now)) }
 {
     let (items, lines) = items_in(alloc, text)?;
     let Some((body, after)) = extent(name, items.as_slice()) else {
@@ -32,7 +33,7 @@ fn insns_in(alloc: Global, text: &[u8], name: &[u8]) -> Result<Insns, ReadRefusa
 
 /// The function of this name, or the text's first fault.
 fn function_in(alloc: Global, text: &[u8], name: &Word) -> Result<Function, ReadRefusal>
-    ensures { Reads text.now name.now result }
+    ensures { Answers out_of_memory (IsFunctionText text.now name.now) (IsRefused text.now name.now) result }
 {
     if let Some(line) = wrong_line(text) {
         return Err(refused(line, ReadKind::NotUtf8));
@@ -54,11 +55,11 @@ fn function_in(alloc: Global, text: &[u8], name: &Word) -> Result<Function, Read
 /// The text is GNU AT&T assembly as compilers write it. Where memory is not found, that is the refusal.
 pub fn read_function(alloc: Global, text: &[u8], name: &Word) -> Result<Function, ReadRefusal>
     // What is answered is so ..
-    ensures exact { Reads text.now name.now result }
+    ensures exact { Answers out_of_memory (IsFunctionText text.now name.now) (IsRefused text.now name.now) result }
 
     // .. and what is so is answered.
-    ensures only { (f : Function) → IsFunctionText text.now name.now f → Gives result (Ok f) }
-    ensures refused { (e : ReadRefusal) → IsRefused text.now name.now e → Gives result (Err e) }
+    ensures only { (f : Function) → IsFunctionText text.now name.now f → Gives out_of_memory result (Ok f) }
+    ensures refused { (e : ReadRefusal) → IsRefused text.now name.now e → Gives out_of_memory result (Err e) }
 
     // Whatever is read can be run from any of its instructions on.
     ensures closed { IfOk result (λ f. IsClosed f.insns) }

@@ -1,8 +1,8 @@
 -- What reading items one after another answers: all that was read, where no fault is, or else the first
 -- fault. F says what is wrong with an item behind those before it, I what is read of it there, and P
 -- which faults precede which.
-use Rattle.std.proofs.Common.{◌≡◌, List, [], ◌∷◌, ◌++◌, Result, Ok, Err, ◌⊎◌, inl, inr, refl, ap, subst, append-nil, append_assoc}
-use Rattle.outcomes.specs.Firsts.{◌>>=◌, all_of, HasFault, IsFirst}
+use Rattle.std.proofs.Common.{◌≡◌, ℕ, ◌<◌, ◌≤◌, List, [], ◌∷◌, ◌++◌, Result, Ok, Err, ◌⊎◌, inl, inr, refl, ap, subst, append-nil, append_assoc, arith}
+use Rattle.outcomes.specs.Firsts.{◌>>=◌, all_of, HasFault, IsFirst, Precedes}
 
 -- a fault of the first item
 pub fault-here : {X E : Type 0} (F : List X → X → E → Type 0) (prefix : List X) (i : X) (is : List X) (e : E) → F prefix i e → HasFault F prefix (i ∷ is) e
@@ -89,3 +89,27 @@ pub first-once : {X E : Type 0} (F : List X → X → E → Type 0) (P : E → E
     → ((a b : E) → HasFault F prefix items a → HasFault F prefix items b → P a b → P b a → a ≡ b)
     → (a b : E) → IsFirst F P prefix items a → IsFirst F P prefix items b → a ≡ b
 first-once F P prefix items same a b one two = same a b one.has two.has (one.least b two.has) (two.least a one.has)
+
+-- two faults that precede each other are of one place and one rank
+pub precedes-same : {E : Type 0} (place rank : E → ℕ) (a b : E) → Precedes place rank a b → Precedes place rank b a → (place a ≡ place b) × (rank a ≡ rank b)
+precedes-same place rank a b (inl less) (inl more) = absurd (omega arith)
+precedes-same place rank a b (inl less) (inr same) = absurd (omega (arith, same.0))
+precedes-same place rank a b (inr same) (inl more) = absurd (omega (arith, same.0))
+precedes-same place rank a b (inr one) (inr two) = (one.0, omega (arith, one.1, two.1))
+
+-- there is one first fault, where faults of one place and one rank are one
+pub first-alone : {X E : Type 0} (F : List X → X → E → Type 0) (place rank : E → ℕ) (prefix items : List X)
+    → ((a b : E) → HasFault F prefix items a → HasFault F prefix items b → place a ≡ place b → rank a ≡ rank b → a ≡ b)
+    → (a b : E) → IsFirst F (Precedes place rank) prefix items a → IsFirst F (Precedes place rank) prefix items b → a ≡ b
+first-alone F place rank prefix items same a b one two =
+    first-once F (Precedes place rank) prefix items (λ x y p q to fro. let alike = precedes-same place rank x y to fro in same x y p q alike.0 alike.1) a b one two
+
+-- faults go in the order of their items, where each is at the place of its item and the items behind are at greater places
+pub placed-first : {X E : Type 0} (F : List X → X → E → Type 0) (place rank : E → ℕ) (at : X → ℕ) → ((before : List X) (i : X) (e : E) → F before i e → place e ≡ at i)
+    → (prefix : List X) (i : X) (is : List X) → ((before : List X) (item : X) (after : List X) → is ≡ before ++ item ∷ after → at i < at item)
+    → ComesFirst F (Precedes place rank) prefix i is
+placed-first F place rank at placed prefix i is above e other here later =
+    let low = placed prefix i e here in
+    let high = placed ((prefix ++ i ∷ []) ++ later.before) later.item other later.wrong in
+    let less = above later.before later.item later.after later.there in
+    inl (omega (arith, low, high, less))

@@ -1,5 +1,5 @@
 -- Items that are read one after another, each judged on those before it, and the first fault among them.
-use Rattle.std.specs.Prelude.{◌≡◌, List, [], ◌∷◌, ◌++◌, Result, Ok, Err}
+use Rattle.std.specs.Prelude.{◌≡◌, ◌⊎◌, ℕ, ◌<◌, ◌≤◌, List, [], ◌∷◌, ◌++◌, Result, Ok, Err}
 
 infixl 10 ◌>>=◌
 -- the next reading, where there is no error
@@ -20,8 +20,12 @@ pub record HasFault {X E : Type 0} (F : List X → X → E → Type 0) (prefix i
   pub there : items ≡ before ++ item ∷ after
   pub wrong : F (prefix ++ before) item e
 
--- a fault that precedes every fault
-pub record IsFirst {X E : Type 0} (F : List X → X → E → Type 0) (Precedes : E → E → Type 0)
+-- a fault that goes before every fault
+pub record IsFirst {X E : Type 0} (F : List X → X → E → Type 0) (GoesBefore : E → E → Type 0)
     (prefix items : List X) (e : E) : Type 0 where
   pub has : HasFault F prefix items e
-  pub least : (other : E) → HasFault F prefix items other → Precedes e other
+  pub least : (other : E) → HasFault F prefix items other → GoesBefore e other
+
+-- the order of faults: at a lesser place, or at the same place and of a rank that is no greater
+abbrev pub Precedes : {E : Type 0} → (E → ℕ) → (E → ℕ) → E → E → Type 0
+Precedes place rank e other = (place e < place other) ⊎ ((place e ≡ place other) × (rank e ≤ rank other))

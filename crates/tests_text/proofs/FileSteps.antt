@@ -1,15 +1,16 @@
 -- The last steps: an outer value, and a file.
-use Rattle.std.proofs.Common.{◌≡◌, ℕ, ◌+◌, ◌<◌, ◌≤◌, Bool, true, false, cond, ltb, List, [], ◌∷◌, length, map, Option, Some, None, Result, Ok, Err, refl, sym, ap, ◌∙◌, arith}
+use Rattle.std.proofs.Common.{◌≡◌, ◌<◌, ◌≤◌, Bool, true, false, cond, ltb, List, [], ◌∷◌, length, Some, Result, Ok, Err, refl, sym, ap, ◌∙◌, arith}
 use Rattle.std.proofs.lemmas.Bool.{lt-ltb, le-ltb}
+use Rattle.outcomes.specs.Answering.{Gives}
 use Rattle.outcomes.specs.Firsts.{◌>>=◌}
-use Rattle.serde_json.specs.Data.{Data, Items}
+use Rattle.outcomes.proofs.Answering.{unless-map}
+use Rattle.serde_json.specs.Data.{Data}
 use Rattle.serde_json.specs.View.{items_view}
 use Rattle.serde_json.specs.declared.value.Value.{Value}
 use Rattle.tests_text.specs.declared.refusal.TestRefusal.{TestRefusal}
-use Rattle.tests_text.specs.declared.refusal.TestRefusal.TheVariants.{BadShape, Memory, NotJson, TooMany, TooManyBytes}
+use Rattle.tests_text.specs.declared.refusal.TestRefusal.TheVariants.{Memory, TooMany}
 use Rattle.tests_text.specs.declared.test.Test.{Test}
 use Rattle.tests_text.specs.declared.test.Tests.{Tests}
-use Rattle.tests_text.specs.TestFiles.{Gives}
 use Rattle.tests_text.specs.Reading.{outer_of}
 use Rattle.tests_text.specs.ReadingTests.{count_of, file_of, tests_from, tests_in}
 
@@ -39,10 +40,6 @@ file-ok d xs ts outer few read = file-few d xs outer few ∙ ap (λ (r : Result 
 stopped : (d : Data) (xs : List Value) (e : TestRefusal) → Some (items_view xs) ≡ outer_of d → length xs ≤ 64 → tests_from 1 (items_view xs) ≡ Err e → file_of d ≡ Err e
 stopped d xs e outer few read = file-few d xs outer few ∙ ap (λ (r : Result (List Test) TestRefusal). r >>= λ us. Ok (with_tests us)) read
 
-pub file-err : (d : Data) (xs : List Value) (e : TestRefusal) → Some (items_view xs) ≡ outer_of d → length xs ≤ 64 → Gives {A = List Test} (Err e) (tests_from 1 (items_view xs))
-    → Gives {A = Tests} (Err e) (file_of d)
-file-err d xs NotJson outer few gives = stopped d xs NotJson outer few gives
-file-err d xs (BadShape k) outer few gives = stopped d xs (BadShape k) outer few gives
-file-err d xs TooMany outer few gives = stopped d xs TooMany outer few gives
-file-err d xs (TooManyBytes k) outer few gives = stopped d xs (TooManyBytes k) outer few gives
-file-err d xs Memory outer few gives = tt
+pub file-err : (d : Data) (xs : List Value) (e : TestRefusal) → Some (items_view xs) ≡ outer_of d → length xs ≤ 64
+    → Gives {A = List Test} Memory (Err e) (tests_from 1 (items_view xs)) → Gives {A = Tests} Memory (Err e) (file_of d)
+file-err d xs e outer few gives = unless-map (stopped d xs e outer few) gives

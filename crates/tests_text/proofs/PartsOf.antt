@@ -1,8 +1,8 @@
 -- The parts of a test, and the list of tests of an outer value.
-use Rattle.std.proofs.Common.{◌≡◌, ℕ, Bool, true, false, cond, List, Option, Some, None, codes, refl, sym, ap, ◌∙◌, subst}
+use Rattle.std.proofs.Common.{◌≡◌, ℕ, Bool, true, false, cond, List, Option, Some, None, codes, refl, ap, ◌∙◌, subst}
 use Rattle.std.proofs.lemmas.Option.{same_Some}
 use Rattle.lane_views.specs.declared.Bytes32.{Bytes32}
-use Rattle.serde_json.specs.Data.{Data, Items, array}
+use Rattle.serde_json.specs.Data.{Data, Items}
 use Rattle.serde_json.specs.Find.{as_array, get}
 use Rattle.tests_text.specs.declared.shape.Kind.TheVariants as kinds
 use Rattle.tests_text.specs.declared.test.Test.{Test}

@@ -1,11 +1,12 @@
 -- Single steps of the code's loops: what is read so far, and what is left.
-use Rattle.std.proofs.Common.{◌≡◌, ℕ, suc, ◌+◌, ◌-◌, ◌/◌, ◌<◌, ◌≤◌, List, [], ◌∷◌, ◌++◌, length, get_or, set, take, drop, Result, Ok, Err, refl, sym, ap, ◌∙◌, subst, append_assoc, append-nil, arith}
+use Rattle.std.proofs.Common.{◌≡◌, ℕ, ◌+◌, List, [], ◌∷◌, ◌++◌, Result, Ok, Err, refl, sym, ap, ◌∙◌, append_assoc, append-nil}
+use Rattle.outcomes.specs.Answering.{Gives}
 use Rattle.outcomes.specs.Firsts.{◌>>=◌}
+use Rattle.outcomes.proofs.Answering.{unless-map}
 use Rattle.serde_json.specs.Data.{Data, Items, item, no_items}
 use Rattle.tests_text.specs.declared.refusal.TestRefusal.{TestRefusal}
-use Rattle.tests_text.specs.declared.refusal.TestRefusal.TheVariants.{BadShape, Memory, NotJson, TooMany, TooManyBytes}
+use Rattle.tests_text.specs.declared.refusal.TestRefusal.TheVariants.{Memory}
 use Rattle.tests_text.specs.declared.test.Test.{Test}
-use Rattle.tests_text.specs.TestFiles.{Gives}
 use Rattle.tests_text.specs.ReadingTests.{test_of, tests_from}
 
 -- what the tests that are left give, behind those so far
@@ -30,12 +31,8 @@ stops k d ds ts e read = ap (λ (r : Result Test TestRefusal). behind_those ts (
 
 -- a test that is refused is the answer
 pub test-stop : (whole : Result (List Test) TestRefusal) (k : ℕ) (d : Data) (ds : Items) (ts : List Test) (e : TestRefusal) → whole ≡ behind_those ts (tests_from k (item d ds))
-    → Gives {A = Test} (Err e) (test_of k d) → Gives {A = List Test} (Err e) whole
-test-stop whole k d ds ts NotJson is gives = is ∙ stops k d ds ts NotJson gives
-test-stop whole k d ds ts (BadShape n) is gives = is ∙ stops k d ds ts (BadShape n) gives
-test-stop whole k d ds ts TooMany is gives = is ∙ stops k d ds ts TooMany gives
-test-stop whole k d ds ts (TooManyBytes n) is gives = is ∙ stops k d ds ts (TooManyBytes n) gives
-test-stop whole k d ds ts Memory is gives = tt
+    → Gives {A = Test} Memory (Err e) (test_of k d) → Gives {A = List Test} Memory (Err e) whole
+test-stop whole k d ds ts e is gives = unless-map (λ (read : test_of k d ≡ Err e). is ∙ stops k d ds ts e read) gives
 
 -- no test is left
 pub tests-end : (k : ℕ) (ts : List Test) → behind_those ts (tests_from k no_items) ≡ Ok ts

@@ -1,22 +1,22 @@
 -- What is read of tests is right, and only that is.
-use Rattle.std.proofs.Common.{◌≡◌, ◌≢◌, ℕ, ◌+◌, ◌-◌, ◌^◌, ◌<◌, ◌≤◌, ◌⊎◌, inl, inr, min, Bool, true, false, cond, ltb, List, [], ◌∷◌, ◌++◌, length, Option, Some, None, Result, Ok, Err, codes, refl, sym, ap, ◌∙◌, subst, arith}
-use Rattle.std.specs.Str.{IsUtf8}
-use Rattle.std.proofs.lemmas.Bool.{both_ways, ltb-true, ltb-false, lt-ltb, le-ltb, cases_lt}
+use Rattle.std.proofs.Common.{◌≡◌, ℕ, ◌+◌, ◌-◌, ◌^◌, ◌<◌, ◌≤◌, ◌⊎◌, inl, inr, min, Bool, true, false, cond, ltb, List, [], ◌∷◌, ◌++◌, length, Option, Some, None, Result, Ok, Err, codes, refl, sym, ap, ◌∙◌, subst, arith}
+use Rattle.std.proofs.lemmas.Bool.{ltb-true, ltb-false, lt-ltb, le-ltb, cases_lt}
 use Rattle.std.proofs.lemmas.Option.{same_Some}
-use Rattle.outcomes.specs.Firsts.{◌>>=◌, HasFault, IsFirst}
-use Rattle.outcomes.proofs.FirstFaults.{AreAll, ComesFirst, IsItem, IsOutcome, fault-none, first-once, outcome-then}
+use Rattle.outcomes.specs.Answering.{Answers, Gives}
+use Rattle.outcomes.specs.Firsts.{◌>>=◌, HasFault, IsFirst, Precedes}
+use Rattle.outcomes.proofs.Answering.{unless-map}
+use Rattle.outcomes.proofs.FirstFaults.{AreAll, ComesFirst, IsItem, IsOutcome, fault-none, first-alone, outcome-then, placed-first}
 use Rattle.lane_views.specs.declared.Bytes32.{Bytes32}
-use Rattle.serde_json.specs.Data.{Data, Items, array, item, no_items}
+use Rattle.serde_json.specs.Data.{Data, Items, item, no_items}
 use Rattle.serde_json.specs.Find.{as_array, get}
 use Rattle.serde_json.specs.Read.{read}
 use Rattle.tests_text.specs.declared.refusal.TestRefusal.{TestRefusal}
 use Rattle.tests_text.specs.declared.refusal.TestRefusal.TheVariants.{BadShape, Memory, NotJson, TooMany, TooManyBytes}
-use Rattle.tests_text.specs.declared.shape.Kind.TheVariants as kinds
 use Rattle.tests_text.specs.declared.test.Test.{Test}
 use Rattle.tests_text.specs.declared.test.Tests.{Tests}
-use Rattle.tests_text.specs.Shapes.{AreRegisters, AreVectors, IsTest, is_object}
-use Rattle.tests_text.specs.TestFiles.{all_numbered, AreTests, Faulty, Gives, HasTests, IsFault, IsJson, IsRefused, IsTestsText, Many, Numbered, Outer, Precedes, Reads, Unread, fault_number, numbered, rank}
-use Rattle.tests_text.specs.Reading.{bytes_of, outer_of, parts_of, pieces_of, registers_of, size_of, vectors_of}
+use Rattle.tests_text.specs.Shapes.{IsTest}
+use Rattle.tests_text.specs.TestFiles.{all_numbered, AreTests, Faulty, HasTests, IsTestFault, IsJson, IsRefused, IsTestsText, Many, Numbered, Outer, Unread, fault_number, numbered, rank}
+use Rattle.tests_text.specs.Reading.{bytes_of, outer_of, parts_of}
 use Rattle.tests_text.specs.ReadingTests.{count_of, file_of, test_by, test_of, test_with, tests_from, tests_in}
 use Rattle.tests_text.proofs.PartsOf.{IsParts, outer-known, outer-only, parts-known, parts-only}
 use Rattle.tests_text.proofs.TestParts.{memory-known, memory-only, size-known, size-only}
@@ -55,7 +55,7 @@ test-only k d t is =
 -- what was answered of a test is right
 abbrev IsTestRight : ℕ → Data → Result Test TestRefusal → Type 0
 IsTestRight k d (Ok t) = IsTest k d t × (length t.bytes ≤ 65536)
-IsTestRight k d (Err e) = IsFault [] (record { value = d; number = k }) e
+IsTestRight k d (Err e) = IsTestFault [] (record { value = d; number = k }) e
 
 none-some : {A : Type 0} (x : A) → ◌≡◌ {A = Option A} None (Some x) → ⊥
 none-some x h = cc
@@ -88,6 +88,9 @@ test-right k d = test-by k d (parts_of k d) refl
 
 -- tests in their order
 
+abbrev TestOrder : TestRefusal → TestRefusal → Type 0
+TestOrder e other = Precedes fault_number rank e other
+
 abbrev IsRead : List Numbered → Numbered → List Test → Type 0
 IsRead before d found = (t : Test) × (found ≡ t ∷ []) × IsTest d.number d.value t × (length t.bytes ≤ 65536)
 
@@ -95,11 +98,11 @@ abbrev one_of : Result Test TestRefusal → Result (List Test) TestRefusal
 one_of (Ok t) = Ok (t ∷ [])
 one_of (Err e) = Err e
 
-fault-at : (before : List Numbered) (d : Numbered) (e : TestRefusal) → IsFault before d e → fault_number e ≡ d.number
+fault-at : (before : List Numbered) (d : Numbered) (e : TestRefusal) → IsTestFault before d e → fault_number e ≡ d.number
 fault-at before d e (inl p) = ap fault_number p.0
 fault-at before d e (inr p) = ap fault_number p.0
 
-no-fault : (before : List Numbered) (d : Numbered) (t : Test) → IsTest d.number d.value t → length t.bytes ≤ 65536 → (e : TestRefusal) → IsFault before d e → ⊥
+no-fault : (before : List Numbered) (d : Numbered) (t : Test) → IsTest d.number d.value t → length t.bytes ≤ 65536 → (e : TestRefusal) → IsTestFault before d e → ⊥
 no-fault before d t is few e (inl p) = p.1 t is
 no-fault before d t is few e (inr p) =
     let mine = test-only d.number d.value t is in
@@ -113,7 +116,7 @@ no-fault before d t is few e (inr p) =
     ok-err : (x : Test) (y : TestRefusal) → ◌≡◌ {A = Result Test TestRefusal} (Ok x) (Err y) → ⊥
     ok-err x y h = cc
 
-same-test : (before : List Numbered) (d : Numbered) (e other : TestRefusal) → IsFault [] d e → IsFault before d other → Precedes e other
+same-test : (before : List Numbered) (d : Numbered) (e other : TestRefusal) → IsTestFault [] d e → IsTestFault before d other → TestOrder e other
 same-test before d e other (inl p) h =
     let low : rank e ≡ 0 = ap rank p.0 in
     inr (ap fault_number p.0 ∙ sym (fault-at before d other h), omega arith)
@@ -123,7 +126,7 @@ same-test before d e other (inr p) (inr q) =
     let its : rank other ≡ 1 = ap rank q.0 in
     inr (ap fault_number p.0 ∙ sym (ap fault_number q.0), omega arith)
 
-item-by : (before : List Numbered) (d : Numbered) (r : Result Test TestRefusal) → IsTestRight d.number d.value r → IsItem IsFault Precedes IsRead before d (one_of r)
+item-by : (before : List Numbered) (d : Numbered) (r : Result Test TestRefusal) → IsTestRight d.number d.value r → IsItem IsTestFault TestOrder IsRead before d (one_of r)
 item-by before d (Ok t) right = ((t, refl, right.0, right.1), no-fault before d t right.0 right.1)
 item-by before d (Err e) right = (right, λ other h. same-test before d e other right h)
 
@@ -139,24 +142,22 @@ numbered-above (item x ds) k (b ∷ before) d after is = let above = numbered-ab
     rest-of : {X : Type 0} {x y : X} {xs ys : List X} → x ∷ xs ≡ y ∷ ys → xs ≡ ys
     rest-of e = cc
 
-in-order : (before : List Numbered) (d : Numbered) (ds : Items) → ComesFirst IsFault Precedes before d (numbered (d.number + 1) ds)
-in-order before d ds e other here later =
-    let above = numbered-above ds (d.number + 1) later.before later.item later.after later.there in
-    let low : fault_number e ≡ d.number = fault-at before d e here in
-    let high : fault_number other ≡ later.item.number = fault-at ((before ++ d ∷ []) ++ later.before) later.item other later.wrong in
-    inl (omega arith)
+in-order : (before : List Numbered) (d : Numbered) (ds : Items) → ComesFirst IsTestFault TestOrder before d (numbered (d.number + 1) ds)
+in-order before d ds =
+    placed-first IsTestFault fault_number rank (λ (x : Numbered). x.number) fault-at before d (numbered (d.number + 1) ds)
+    (λ front x after there. let above = numbered-above ds (d.number + 1) front x after there in omega arith)
 
 tests-same : (k : ℕ) (ds : Items) (r : Result Test TestRefusal) → (r >>= λ t. (tests_from (k + 1) ds >>= λ ts. Ok (t ∷ ts))) ≡ (one_of r >>= λ found. (tests_from (k + 1) ds >>= λ ts. Ok (found ++ ts)))
 tests-same k ds (Ok t) = refl
 tests-same k ds (Err e) = refl
 
-tests-outcome : (ds : Items) (k : ℕ) (before : List Numbered) → IsOutcome IsFault Precedes IsRead before (numbered k ds) (tests_from k ds)
+tests-outcome : (ds : Items) (k : ℕ) (before : List Numbered) → IsOutcome IsTestFault TestOrder IsRead before (numbered k ds) (tests_from k ds)
 unfolding tests_from
-tests-outcome no_items k before = (refl, λ e h. fault-none IsFault before e h)
+tests-outcome no_items k before = (refl, λ e h. fault-none IsTestFault before e h)
 tests-outcome (item d ds) k before =
     let here : Numbered = record { value = d; number = k } in
-    subst (λ (r : Result (List Test) TestRefusal). IsOutcome IsFault Precedes IsRead before (here ∷ numbered (k + 1) ds) r) (sym (tests-same k ds (test_of k d)))
-    (outcome-then IsFault Precedes IsRead before here (numbered (k + 1) ds) (one_of (test_of k d)) (tests_from (k + 1) ds) (in-order before here ds)
+    subst (λ (r : Result (List Test) TestRefusal). IsOutcome IsTestFault TestOrder IsRead before (here ∷ numbered (k + 1) ds) r) (sym (tests-same k ds (test_of k d)))
+    (outcome-then IsTestFault TestOrder IsRead before here (numbered (k + 1) ds) (one_of (test_of k d)) (tests_from (k + 1) ds) (in-order before here ds)
     (item-by before here (test_of k d) (test-right k d)) (tests-outcome ds (k + 1) (before ++ here ∷ [])))
 
 all-tests : (ds before : List Numbered) (ts : List Test) → AreAll IsRead before ds ts → AreTests ds ts
@@ -181,39 +182,17 @@ count-is : (ds : Items) (k : ℕ) → count_of ds ≡ length (numbered k ds)
 count-is no_items k = refl
 count-is (item d ds) k = let e = count-is ds (k + 1) in omega arith
 
--- there is one first fault
+-- faults of one test and one rank are one
 
-bad-bad : (m n : ℕ) → Precedes (BadShape m) (BadShape n) → Precedes (BadShape n) (BadShape m) → m ≡ n
-bad-bad m n (inl a) (inl b) = absurd (omega arith)
-bad-bad m n (inl a) (inr b) = absurd (omega (arith, b.0))
-bad-bad m n (inr a) b = a.0
-
-many-many : (m n : ℕ) → Precedes (TooManyBytes m) (TooManyBytes n) → Precedes (TooManyBytes n) (TooManyBytes m) → m ≡ n
-many-many m n (inl a) (inl b) = absurd (omega arith)
-many-many m n (inl a) (inr b) = absurd (omega (arith, b.0))
-many-many m n (inr a) b = a.0
-
-bad-many : (m n : ℕ) → Precedes (BadShape m) (TooManyBytes n) → Precedes (TooManyBytes n) (BadShape m) → ⊥
-bad-many m n (inl a) (inl b) = omega arith
-bad-many m n (inl a) (inr b) = omega (arith, b.0)
-bad-many m n (inr a) (inl b) = omega (arith, a.0)
-bad-many m n (inr a) (inr b) = omega (arith, b.1)
-
-carried : (a b x y : TestRefusal) → a ≡ x → b ≡ y → Precedes a b → Precedes x y
-carried a b x y p q h = subst (λ (u : TestRefusal). Precedes u y) p (subst (λ (v : TestRefusal). Precedes a v) q h)
-
-fault-same : (front ds : List Numbered) (a b : TestRefusal) → HasFault IsFault front ds a → HasFault IsFault front ds b → Precedes a b → Precedes b a → a ≡ b
-fault-same front ds a b x y one two = by_cases x.wrong y.wrong
+fault-same : (front ds : List Numbered) (a b : TestRefusal) → HasFault IsTestFault front ds a → HasFault IsTestFault front ds b → fault_number a ≡ fault_number b → rank a ≡ rank b
+    → a ≡ b
+fault-same front ds a b x y numbers ranks = by_cases x.wrong y.wrong
   where
-    by_cases : IsFault (front ++ x.before) x.item a → IsFault (front ++ y.before) y.item b → a ≡ b
-    by_cases (inl p) (inl q) =
-        let same = bad-bad x.item.number y.item.number (carried a b _ _ p.0 q.0 one) (carried b a _ _ q.0 p.0 two) in
-        p.0 ∙ ap (λ (n : ℕ). BadShape n) same ∙ sym q.0
-    by_cases (inl p) (inr q) = absurd (bad-many x.item.number y.item.number (carried a b _ _ p.0 q.0 one) (carried b a _ _ q.0 p.0 two))
-    by_cases (inr p) (inl q) = absurd (bad-many y.item.number x.item.number (carried b a _ _ q.0 p.0 two) (carried a b _ _ p.0 q.0 one))
-    by_cases (inr p) (inr q) =
-        let same = many-many x.item.number y.item.number (carried a b _ _ p.0 q.0 one) (carried b a _ _ q.0 p.0 two) in
-        p.0 ∙ ap (λ (n : ℕ). TooManyBytes n) same ∙ sym q.0
+    by_cases : IsTestFault (front ++ x.before) x.item a → IsTestFault (front ++ y.before) y.item b → a ≡ b
+    by_cases (inl p) (inl q) = p.0 ∙ ap (λ (n : ℕ). BadShape n) (sym (ap fault_number p.0) ∙ numbers ∙ ap fault_number q.0) ∙ sym q.0
+    by_cases (inl p) (inr q) = let low : rank a ≡ 0 = ap rank p.0 in let high : rank b ≡ 1 = ap rank q.0 in absurd (omega arith)
+    by_cases (inr p) (inl q) = let high : rank a ≡ 1 = ap rank p.0 in let low : rank b ≡ 0 = ap rank q.0 in absurd (omega arith)
+    by_cases (inr p) (inr q) = p.0 ∙ ap (λ (n : ℕ). TooManyBytes n) (sym (ap fault_number p.0) ∙ numbers ∙ ap fault_number q.0) ∙ sym q.0
 
 -- a whole value
 
@@ -223,12 +202,12 @@ IsFileRight d (Ok tests) = (ds : Items) × HasTests d ds × (length (all_numbere
 IsFileRight d (Err e) =
     (((ds : Items) → HasTests d ds → ⊥) × (e ≡ BadShape 0))
     ⊎ (((ds : Items) × HasTests d ds × (64 < length (all_numbered ds)) × (e ≡ TooMany))
-    ⊎ ((ds : Items) × HasTests d ds × (length (all_numbered ds) ≤ 64) × IsFirst IsFault Precedes [] (all_numbered ds) e))
+    ⊎ ((ds : Items) × HasTests d ds × (length (all_numbered ds) ≤ 64) × IsFirst IsTestFault TestOrder [] (all_numbered ds) e))
 
 abbrev with_tests : List Test → Tests
 with_tests ts = record { tests = ts }
 
-listed : (d : Data) (ds : Items) (r : Result (List Test) TestRefusal) → HasTests d ds → length (all_numbered ds) ≤ 64 → IsOutcome IsFault Precedes IsRead [] (all_numbered ds) r
+listed : (d : Data) (ds : Items) (r : Result (List Test) TestRefusal) → HasTests d ds → length (all_numbered ds) ≤ 64 → IsOutcome IsTestFault TestOrder IsRead [] (all_numbered ds) r
     → IsFileRight d (r >>= λ ts. Ok (with_tests ts))
 listed d ds (Ok ts) has few out = (ds, has, few, all-tests (all_numbered ds) [] ts out.0)
 listed d ds (Err e) has few out = inr (inr (ds, has, few, out))
@@ -276,25 +255,23 @@ refusal-by text d e json (inl p) = Outer d json p.0 p.1
 refusal-by text d e json (inr (inl p)) = Many d json p.0 p.1 p.2 p.3
 refusal-by text d e json (inr (inr p)) = Faulty d json p.0 p.1 p.2 p.3
 
-reads-by : (text : List ℕ) (d : Data) (result : Result Tests TestRefusal) → IsJson text d → Gives result (file_of d) → Reads text result
-reads-by text d (Ok tests) json gives =
+-- what is answered of a text with a value is so
+pub value-reads : (text : List ℕ) (d : Data) (result : Result Tests TestRefusal) → IsJson text d → Gives Memory result (file_of d) → Answers Memory (IsTestsText text) (IsRefused text) result
+value-reads text d (Ok tests) json gives =
     let right = subst (IsFileRight d) gives (file-right d) in
     record { value = d; json = json; items = right.0; has = right.1; few = right.2; each = right.3 }
-reads-by text d (Err Memory) json gives = tt
-reads-by text d (Err NotJson) json gives = refusal-by text d NotJson json (subst (IsFileRight d) gives (file-right d))
-reads-by text d (Err (BadShape k)) json gives = refusal-by text d (BadShape k) json (subst (IsFileRight d) gives (file-right d))
-reads-by text d (Err TooMany) json gives = refusal-by text d TooMany json (subst (IsFileRight d) gives (file-right d))
-reads-by text d (Err (TooManyBytes k)) json gives = refusal-by text d (TooManyBytes k) json (subst (IsFileRight d) gives (file-right d))
+value-reads text d (Err e) json gives = unless-map (λ (is : file_of d ≡ Err e). refusal-by text d e json (subst (IsFileRight d) is (file-right d))) gives
 
--- what is answered of a text with a value is so
-pub value-reads : (text : List ℕ) (d : Data) (result : Result Tests TestRefusal) → IsJson text d → Gives result (file_of d) → Reads text result
-value-reads text d result json gives = reads-by text d result json gives
-
-pub value-gives : (text : List ℕ) (d : Data) (result : Result Tests TestRefusal) → IsJson text d → Gives result (file_of d) → (tests : Tests) → IsTestsText text tests → Gives result (Ok tests)
-value-gives text d result json gives tests is =
+-- a text that spells tests has a value of which they are read
+text-read : (text : List ℕ) (d : Data) (tests : Tests) → IsJson text d → IsTestsText text tests → file_of d ≡ Ok tests
+text-read text d tests json is =
     let same : is.value ≡ d = json-once text is.value d is.json json in
     let read : file_of is.value ≡ Ok (with_tests tests.tests) = file-only is.value is.items tests.tests is.has is.few is.each in
-    subst (Gives result) (ap file_of (sym same) ∙ read) gives
+    ap file_of (sym same) ∙ read
+
+pub value-gives : (text : List ℕ) (d : Data) (result : Result Tests TestRefusal) → IsJson text d → Gives Memory result (file_of d) → (tests : Tests) → IsTestsText text tests
+    → Gives Memory result (Ok tests)
+value-gives text d result json gives tests is = subst (Gives Memory result) (text-read text d tests json is) gives
 
 none-in : (d : Data) (r : Option Items) → outer_of d ≡ r → ((ds : Items) → HasTests d ds → ⊥) → tests_in r ≡ Err (BadShape 0)
 none-in d None is none = refl
@@ -305,12 +282,12 @@ many-in ds many =
     let high : ltb 64 (count_of ds) ≡ true = lt-ltb 64 (count_of ds) (omega (arith, count-is ds 1)) in
     ap (λ (t : Bool). cond t (Err TooMany) (tests_from 1 ds >>= λ xs. Ok (with_tests xs))) high
 
-first-in : (ds : Items) (e : TestRefusal) (r : Result (List Test) TestRefusal) → IsOutcome IsFault Precedes IsRead [] (all_numbered ds) r
-    → IsFirst IsFault Precedes [] (all_numbered ds) e → (r >>= λ xs. Ok (with_tests xs)) ≡ Err e
+first-in : (ds : Items) (e : TestRefusal) (r : Result (List Test) TestRefusal) → IsOutcome IsTestFault TestOrder IsRead [] (all_numbered ds) r
+    → IsFirst IsTestFault TestOrder [] (all_numbered ds) e → (r >>= λ xs. Ok (with_tests xs)) ≡ Err e
 first-in ds e (Ok ts) out first = absurd (out.1 e first.has)
-first-in ds e (Err f) out first = ap (λ (x : TestRefusal). Err x) (first-once IsFault Precedes [] (all_numbered ds) (fault-same [] (all_numbered ds)) f e out first)
+first-in ds e (Err f) out first = ap (λ (x : TestRefusal). Err x) (first-alone IsTestFault fault_number rank [] (all_numbered ds) (fault-same [] (all_numbered ds)) f e out first)
 
-faulty-in : (ds : Items) (e : TestRefusal) → length (all_numbered ds) ≤ 64 → IsFirst IsFault Precedes [] (all_numbered ds) e → tests_in (Some ds) ≡ Err e
+faulty-in : (ds : Items) (e : TestRefusal) → length (all_numbered ds) ≤ 64 → IsFirst IsTestFault TestOrder [] (all_numbered ds) e → tests_in (Some ds) ≡ Err e
 faulty-in ds e few first =
     let low : ltb 64 (count_of ds) ≡ false = le-ltb 64 (count_of ds) (omega (arith, count-is ds 1)) in
     ap (λ (t : Bool). cond t (Err TooMany) (tests_from 1 ds >>= λ xs. Ok (with_tests xs))) low ∙ first-in ds e (tests_from 1 ds) (tests-outcome ds 1 []) first
@@ -328,25 +305,54 @@ file-refused text d e json (Faulty c known ds has few first) =
     let outer = outer-only d ds (subst (λ (x : Data). HasTests x ds) (json-once text c d known json) has) in
     ap tests_in outer ∙ faulty-in ds e few first
 
-pub value-refused : (text : List ℕ) (d : Data) (result : Result Tests TestRefusal) → IsJson text d → Gives result (file_of d) → (e : TestRefusal) → IsRefused text e → Gives result (Err e)
-value-refused text d result json gives e refused = subst (Gives result) (file-refused text d e json refused) gives
+pub value-refused : (text : List ℕ) (d : Data) (result : Result Tests TestRefusal) → IsJson text d → Gives Memory result (file_of d) → (e : TestRefusal) → IsRefused text e
+    → Gives Memory result (Err e)
+value-refused text d result json gives e refused = subst (Gives Memory result) (file-refused text d e json refused) gives
 
 -- a text without a value
 
-pub unread-reads : (text : List ℕ) → ((d : Data) → IsJson text d → ⊥) → Reads text (Err NotJson)
-unread-reads text none = Unread none refl
+unread-only : (text : List ℕ) → ((d : Data) → IsJson text d → ⊥) → (e : TestRefusal) → IsRefused text e → e ≡ NotJson
+unread-only text none e (Unread alike is) = is
+unread-only text none e (Outer c known without is) = absurd (none c known)
+unread-only text none e (Many c known ds has many is) = absurd (none c known)
+unread-only text none e (Faulty c known ds has few first) = absurd (none c known)
 
-pub unread-gives : (text : List ℕ) → ((d : Data) → IsJson text d → ⊥) → (tests : Tests) → IsTestsText text tests → Gives {A = Tests} (Err NotJson) (Ok tests)
+pub unread-reads : (text : List ℕ) → ((d : Data) → IsJson text d → ⊥) → Answers {A = Tests} Memory (IsTestsText text) (IsRefused text) (Err NotJson)
+unread-reads text none = inr (Unread none refl)
+
+pub unread-gives : (text : List ℕ) → ((d : Data) → IsJson text d → ⊥) → (tests : Tests) → IsTestsText text tests → Gives {A = Tests} Memory (Err NotJson) (Ok tests)
 unread-gives text none tests is = absurd (none is.value is.json)
 
-pub unread-refused : (text : List ℕ) → ((d : Data) → IsJson text d → ⊥) → (e : TestRefusal) → IsRefused text e → Gives {A = Tests} (Err NotJson) (Err e)
-unread-refused text none e (Unread alike is) = ap (λ (x : TestRefusal). Err x) is
-unread-refused text none e (Outer c known without is) = absurd (none c known)
-unread-refused text none e (Many c known ds has many is) = absurd (none c known)
-unread-refused text none e (Faulty c known ds has few first) = absurd (none c known)
+pub unread-refused : (text : List ℕ) → ((d : Data) → IsJson text d → ⊥) → (e : TestRefusal) → IsRefused text e → Gives {A = Tests} Memory (Err NotJson) (Err e)
+unread-refused text none e refused = inr (ap (λ (x : TestRefusal). Err x) (unread-only text none e refused))
 
--- a text is not both tests and refused
+-- one meaning
+
+-- a text spells one list of tests at most
+pub text-once : (text : List ℕ) (a b : Tests) → IsTestsText text a → IsTestsText text b → a ≡ b
+text-once text a b one two = let p = text-read text one.value a one.json one in let q = text-read text one.value b one.json two in cc
+
+-- is not refused then
 pub text-differs : (text : List ℕ) (tests : Tests) (e : TestRefusal) → IsTestsText text tests → IsRefused text e → ⊥
-text-differs text tests e is refused =
-    let p : file_of is.value ≡ Ok (with_tests tests.tests) = file-only is.value is.items tests.tests is.has is.few is.each in
-    let q = file-refused text is.value e is.json refused in cc
+text-differs text tests e is refused = let p = text-read text is.value tests is.json is in let q = file-refused text is.value e is.json refused in cc
+
+one_refusal : (text : List ℕ) (d : Data) (a b : TestRefusal) → IsJson text d → IsRefused text a → IsRefused text b → a ≡ b
+one_refusal text d a b json one two = let p = file-refused text d a json one in let q = file-refused text d b json two in cc
+
+-- is refused in at most one way
+pub refused-once : (text : List ℕ) (a b : TestRefusal) → IsRefused text a → IsRefused text b → a ≡ b
+refused-once text a b (Unread none is) other = is ∙ sym (unread-only text none b other)
+refused-once text a b (Outer d json none is) other = one_refusal text d a b json (Outer d json none is) other
+refused-once text a b (Many d json ds has many is) other = one_refusal text d a b json (Many d json ds has many is) other
+refused-once text a b (Faulty d json ds has few first) other = one_refusal text d a b json (Faulty d json ds has few first) other
+
+-- and never because memory was not found
+pub refused-found : (text : List ℕ) (e : TestRefusal) → IsRefused text e → e ≡ Memory → ⊥
+refused-found text e (Unread none is) memory = cc
+refused-found text e (Outer d json none is) memory = cc
+refused-found text e (Many d json ds has many is) memory = cc
+refused-found text e (Faulty d json ds has few first) memory = by_fault first.has.wrong
+  where
+    by_fault : IsTestFault ([] ++ first.has.before) first.has.item e → ⊥
+    by_fault (inl p) = let q : e ≡ BadShape first.has.item.number = p.0 in cc
+    by_fault (inr p) = let q : e ≡ TooManyBytes first.has.item.number = p.0 in cc

@@ -1,9 +1,8 @@
 -- What the code reads of single JSON values.
-use Rattle.std.proofs.Common.{◌≡◌, ℕ, List, Option, Some, None, refl, ap}
-use Rattle.std.specs.Option.{option_and_then}
+use Rattle.std.proofs.Common.{◌≡◌, ℕ, List, Some, ap}
 use Rattle.std.proofs.lemmas.Option.{same_Some}
 use Rattle.serde_json.specs.Data.{Data, Items, Num, array, boolean, float, negative, null, number, object, string, unsigned}
-use Rattle.serde_json.specs.Find.{as_array, as_number, as_str, as_u64}
+use Rattle.serde_json.specs.Find.{as_array, as_str, as_u64}
 use Rattle.tests_text.specs.Shapes.{IsWhole}
 use Rattle.tests_text.specs.Reading.{whole_of}
 

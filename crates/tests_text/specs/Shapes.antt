@@ -2,7 +2,7 @@
 --
 -- `object ms`, `get` and `read` are words of serde_json: `read` gives the value of a text, in which each member of an object
 -- stands once, with the value that came last in the text.
-use Rattle.std.specs.Prelude.{◌≡◌, ◌⊎◌, ℕ, ◌+◌, ◌*◌, ◌%◌, ◌^◌, ◌<◌, ◌≤◌, Bool, true, false, ◌&&◌, List, [], ◌∷◌, ◌++◌, length, Option, Some, None, IfSome, option_and_then, slice_get, slice_index, codes, bytes_eq}
+use Rattle.std.specs.Prelude.{◌≡◌, ℕ, ◌+◌, ◌*◌, ◌%◌, ◌^◌, ◌<◌, ◌≤◌, Bool, true, false, ◌&&◌, List, [], ◌∷◌, ◌++◌, length, Option, Some, None, IfSome, option_and_then, slice_get, slice_index, codes, bytes_eq}
 use Rattle.std.specs.List.{list_any}
 use Rattle.lane_views.specs.declared.Bytes32.{Bytes32}
 use Rattle.serde_json.specs.Data.{Data, Items, Members, array, item, member, no_items, no_members, null, boolean, number, object, string, unsigned}

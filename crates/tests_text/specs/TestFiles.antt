@@ -1,7 +1,7 @@
 -- Whole files of tests, and why a file is none: its first fault.
-use Rattle.std.specs.Prelude.{◌≡◌, ◌≢◌, ◌⊎◌, ℕ, ◌+◌, ◌<◌, ◌≤◌, true, List, [], ◌∷◌, ◌++◌, length, Some, Result, Ok, Err, codes}
+use Rattle.std.specs.Prelude.{◌≡◌, ◌⊎◌, ℕ, ◌+◌, ◌<◌, ◌≤◌, true, List, [], ◌∷◌, length, Some, codes}
 use Rattle.std.specs.Str.{IsUtf8}
-use Rattle.outcomes.specs.Firsts.{HasFault, IsFirst}
+use Rattle.outcomes.specs.Firsts.{IsFirst, Precedes}
 use Rattle.serde_json.specs.Data.{Data, Items, array, item, no_items}
 use Rattle.serde_json.specs.Find.{get}
 use Rattle.serde_json.specs.Read.{read}
@@ -53,8 +53,8 @@ pub record IsTestsText (text : List ℕ) (tests : Tests) : Type 0 where
   pub each : AreTests (all_numbered items) tests.tests
 
 -- a value that spells no test, or one of too many bytes
-abbrev pub IsFault : List Numbered → Numbered → TestRefusal → Type 0
-IsFault before d e =
+abbrev pub IsTestFault : List Numbered → Numbered → TestRefusal → Type 0
+IsTestFault before d e =
     ((e ≡ BadShape d.number) × ((t : Test) → IsTest d.number d.value t → ⊥))
     ⊎ ((e ≡ TooManyBytes d.number) × ((t : Test) × IsTest d.number d.value t × (65536 < length t.bytes)))
 
@@ -74,32 +74,10 @@ rank TooMany = 0
 rank (TooManyBytes k) = 1
 rank Memory = 0
 
--- of a lesser test, or of the same test no later in the order
-abbrev pub Precedes : TestRefusal → TestRefusal → Type 0
-Precedes e other = (fault_number e < fault_number other) ⊎ ((fault_number e ≡ fault_number other) × (rank e ≤ rank other))
-
 -- the refusal of a text: no JSON, an outer value that is not as it should be, too many tests, or else the first fault of a test
 pub data IsRefused (text : List ℕ) (e : TestRefusal) : Type 0 where
   Unread : ((d : Data) → IsJson text d → ⊥) → e ≡ NotJson → IsRefused text e
   Outer : (d : Data) → IsJson text d → ((ds : Items) → HasTests d ds → ⊥) → e ≡ BadShape 0 → IsRefused text e
   Many : (d : Data) → IsJson text d → (ds : Items) → HasTests d ds → 64 < length (all_numbered ds) → e ≡ TooMany → IsRefused text e
   Faulty : (d : Data) → IsJson text d → (ds : Items) → HasTests d ds → length (all_numbered ds) ≤ 64
-      → IsFirst IsFault Precedes [] (all_numbered ds) e → IsRefused text e
-
--- what was answered is so; where memory was not found nothing is said
-abbrev pub Reads : List ℕ → Result Tests TestRefusal → Type 0
-Reads text (Ok tests) = IsTestsText text tests
-Reads text (Err Memory) = Unit {0}
-Reads text (Err NotJson) = IsRefused text NotJson
-Reads text (Err (BadShape k)) = IsRefused text (BadShape k)
-Reads text (Err TooMany) = IsRefused text TooMany
-Reads text (Err (TooManyBytes k)) = IsRefused text (TooManyBytes k)
-
--- what is so was answered, unless memory was not found
-abbrev pub Gives : {A : Type 0} → Result A TestRefusal → Result A TestRefusal → Type 0
-Gives (Ok a) right = right ≡ Ok a
-Gives (Err Memory) right = Unit {0}
-Gives (Err NotJson) right = right ≡ Err NotJson
-Gives (Err (BadShape k)) right = right ≡ Err (BadShape k)
-Gives (Err TooMany) right = right ≡ Err TooMany
-Gives (Err (TooManyBytes k)) right = right ≡ Err (TooManyBytes k)
+      → IsFirst IsTestFault (Precedes fault_number rank) [] (all_numbered ds) e → IsRefused text e

@@ -9,6 +9,7 @@
 #![tactic(auto)]
 
 mod hex;
+mod laws;
 mod memory;
 mod read;
 mod refusal;
@@ -17,6 +18,7 @@ mod shape;
 mod test;
 mod vector;
 
+pub use laws::tests_have_one_meaning;
 pub use read::read_tests;
 pub use refusal::TestRefusal;
 pub use test::{Test, Tests};

@@ -1,10 +1,11 @@
 //! Reads tests, and files of them.
 ghost use Rattle.std.specs.Prelude.{◌≡◌, ◌≤◌, ◌↔◌, IfOk, length, option_map};
+ghost use Rattle.outcomes.specs.Answering.{Answers, Gives};
 ghost use Rattle.serde_json.specs.Errors.{IsMemory};
 ghost use Rattle.serde_json.specs.View.{items_view, view};
 ghost use Rattle.tests_text.specs.Reading as reading;
 ghost use Rattle.tests_text.specs.ReadingTests as tests;
-ghost use Rattle.tests_text.specs.TestFiles.{Gives, IsRefused, IsTestsText, Reads};
+ghost use Rattle.tests_text.specs.TestFiles.{IsRefused, IsTestsText};
 ghost use Rattle.tests_text.specs.declared.refusal.TestRefusal.{TestRefusal};
 ghost use Rattle.tests_text.specs.declared.test.Tests.{Tests};
 
@@ -36,7 +37,7 @@ fn sized_pieces(value: &Value) -> Option<(&[Value], u64)>
 #[tactic(auto, unfolding(crate::specs::ReadingTests::test_of, crate::specs::Reading::parts_of))]
 fn test_of(alloc: Global, k: u32, value: &Value) -> Result<Test, TestRefusal>
     requires { k ≤ 64 }
-    ensures { Gives result (tests.test_of k (view value.now)) }
+    ensures { Gives TestRefusal.Memory result (tests.test_of k (view value.now)) }
 {
     let bad = TestRefusal::BadShape(k);
     if !is_object(Kind::Test, value) {
@@ -63,7 +64,7 @@ fn test_of(alloc: Global, k: u32, value: &Value) -> Result<Test, TestRefusal>
 // Tests, numbered from 1.
 fn tests_of(alloc: Global, values: &[Value]) -> Result<Items<Test>, TestRefusal>
     requires { length values.now ≤ 64 }
-    ensures { Gives result (tests.tests_from 1 (items_view values.now)) }
+    ensures { Gives TestRefusal.Memory result (tests.tests_from 1 (items_view values.now)) }
 {
     let mut tests = Items::none(alloc);
     let mut k = 0u32;
@@ -89,7 +90,7 @@ fn outer_of(value: &Value) -> Option<&[Value]>
 // The tests of a JSON value.
 #[tactic(auto, unfolding(crate::specs::ReadingTests::file_of))]
 fn file_of(alloc: Global, value: &Value) -> Result<Tests, TestRefusal>
-    ensures { Gives result (tests.file_of (view value.now)) }
+    ensures { Gives TestRefusal.Memory result (tests.file_of (view value.now)) }
 {
     let Some(values) = outer_of(value) else {
         return Err(TestRefusal::BadShape(0));
@@ -107,11 +108,11 @@ fn file_of(alloc: Global, value: &Value) -> Result<Tests, TestRefusal>
 /// memory is wanted and not found, that is the refusal.
 pub fn read_tests(alloc: Global, bytes: &[u8]) -> Result<Tests, TestRefusal>
     // What is answered is so ..
-    ensures exact { Reads bytes.now result }
+    ensures exact { Answers TestRefusal.Memory (IsTestsText bytes.now) (IsRefused bytes.now) result }
 
     // .. and what is so is answered.
-    ensures only { (tests : Tests) → IsTestsText bytes.now tests → Gives result (Ok tests) }
-    ensures refused { (e : TestRefusal) → IsRefused bytes.now e → Gives result (Err e) }
+    ensures only { (tests : Tests) → IsTestsText bytes.now tests → Gives TestRefusal.Memory result (Ok tests) }
+    ensures refused { (e : TestRefusal) → IsRefused bytes.now e → Gives TestRefusal.Memory result (Err e) }
 {
     match Value::from_slice(alloc, bytes) {
         Ok(value) => file_of(alloc, &value),

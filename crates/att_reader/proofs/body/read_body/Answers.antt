@@ -1,4 +1,4 @@
-use Rattle.std.proofs.Common.{◌≡◌, ◌∙◌, sym, ap, map, length, Ok}
+use Rattle.std.proofs.Common.{◌∙◌, sym, ap, map, length, Ok}
 use Rattle.std.proofs.lemmas.Result.{err_from_is_err_and}
 use Rattle.text_lines.specs.Views.{seen}
 use Rattle.att_bodies.specs.Labelled.{labelled}

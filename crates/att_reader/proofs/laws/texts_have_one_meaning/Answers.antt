@@ -1,4 +1,4 @@
-use Rattle.att_reader.proofs.TextLaws.{text-once, text-differs, refused-once}
+use Rattle.att_reader.proofs.TextLaws.{text-once, text-differs, refused-once, refused-found}
 use Rattle.att_reader.proofs.laws.texts_have_one_meaning.Goals as goal
 
 pub returns-clause-function : goal.returns-clause-function
@@ -9,3 +9,6 @@ returns-clause-not_both c = text-differs
 
 pub returns-clause-refusal : goal.returns-clause-refusal
 returns-clause-refusal c = refused-once
+
+pub returns-clause-not_memory : goal.returns-clause-not_memory
+returns-clause-not_memory c = refused-found
