@@ -6,7 +6,7 @@ use Rattle.std.proofs.lemmas.Bool.{and_parts, and_from, le-leb, leb-true}
 use Rattle.std.proofs.lemmas.Bool.Decides.{Decides-eqb, Decides-ltb, Decides-not}
 use Rattle.std.proofs.lemmas.List.{length-map}
 use Rattle.std.proofs.lemmas.Option.{same_Some, slice_get-get_or}
-use Rattle.machine.specs.declared.state.Region.{Region}
+use Rattle.memory_spans.specs.declared.region.Region.{Region}
 use Rattle.admission.specs.declared.expr.Term.{Term}
 use Rattle.admission.specs.declared.expr.Expr.{Expr}
 use Rattle.admission.specs.declared.admission.Rel.{Rel}

@@ -2,7 +2,7 @@
 use Rattle.std.proofs.Common.{◌≡◌, ℕ, ◌+◌, ◌-◌, ◌^◌, ◌<◌, ◌≤◌, true, ◌&&◌, ◌||◌, eqb, leb, inl, inr, arith}
 use Rattle.std.specs.Bool.{Decides}
 use Rattle.std.proofs.lemmas.Bool.{and_parts, and_from, or_cases, or_left, or_right, leb-true, le-leb, eqb-true, eq-eqb, cases_lt, cases_eq}
-use Rattle.machine.specs.declared.state.Region.{Region}
+use Rattle.memory_spans.specs.declared.region.Region.{Region}
 use Rattle.memory_spans.specs.Memory.{offset_from}
 use Rattle.admission.specs.Admitted.{AreApart, HasByte, IsPlaced}
 use Rattle.admission.specs.Tests.{fits, is_clear, is_placed}

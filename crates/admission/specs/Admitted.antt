@@ -1,8 +1,7 @@
--- Which entry registers, and which start states, an admission admits. All of it is this project's own.
+-- Which entry registers an admission admits. All of it is this project's own.
 use Rattle.std.specs.Prelude.{ℕ, ◌≡◌, ◌≢◌, ◌+◌, ◌%◌, ◌^◌, ◌<◌, ◌≤◌, List, Some, map, slice_get, slice_index}
 use Rattle.std.specs.List.{AllByRecursion}
-use Rattle.machine.specs.declared.state.Region.{Region}
-use Rattle.machine.specs.Machine.{IsStart, Machine}
+use Rattle.memory_spans.specs.declared.region.Region.{Region}
 use Rattle.memory_spans.specs.Memory.{offset_from}
 use Rattle.admission.specs.declared.expr.Expr.{Expr}
 use Rattle.admission.specs.declared.admission.Rel.{Rel}
@@ -73,11 +72,3 @@ pub record IsAdmitted (a : Admission) (regs : List ℕ) : Type 0 where
   pub placed : AllByRecursion (IsPlaced (slice_index regs 4) a.stack) (regions_of regs a)
   pub met : AllByRecursion (IsMet regs) a.needs
   pub apart : AllByRecursion (ArePairApart (regions_of regs a)) a.aparts
-
--- An admitted start state: at the first instruction, with the entry registers and no flag set, the regions and stack
--- bytes that the admission gives at the entry registers, and these admitted. Vectors and memory are free.
-pub record IsAdmittedStart (a : Admission) (s : Machine) : Type 0 where
-  pub start : IsStart s
-  pub regions : s.regions ≡ regions_of s.entry a
-  pub stack : s.stack ≡ a.stack
-  pub admitted : IsAdmitted a s.entry

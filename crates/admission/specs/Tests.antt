@@ -1,7 +1,7 @@
 -- The tests of the code, as functions to truth values.
 use Rattle.std.specs.Prelude.{ℕ, ◌+◌, ◌-◌, ◌%◌, ◌^◌, Bool, false, not, ◌&&◌, ◌||◌, ◌==◌, nat_lt, nat_le, List, Some, Option, slice_get, slice_index}
 use Rattle.std.specs.List.{list_all}
-use Rattle.machine.specs.declared.state.Region.{Region}
+use Rattle.memory_spans.specs.declared.region.Region.{Region}
 use Rattle.memory_spans.specs.Memory.{offset_from}
 use Rattle.admission.specs.declared.admission.Rel.{Rel}
 use Rattle.admission.specs.declared.admission.Rel.TheVariants.{Eq, Ne, Lt, Le, Slt, Sle}

@@ -1,7 +1,7 @@
 -- What an admission must be: within the limits, with numbers, registers and widths that there are.
 use Rattle.std.specs.Prelude.{ℕ, ◌≡◌, ◌<◌, ◌≤◌, ◌%◌, ◌^◌, false, length, List, [], ◌∷◌, IfSome}
 use Rattle.std.specs.List.{AllByRecursion}
-use Rattle.machine.specs.Difference.{IsOutput}
+use Rattle.insn_ops.specs.Outputs.{IsOutput}
 use Rattle.admission.specs.declared.expr.Term.{Term}
 use Rattle.admission.specs.declared.expr.Expr.{Expr}
 use Rattle.admission.specs.declared.admission.Need.{Need}

@@ -21,4 +21,5 @@ pub use admission::{Admission, Need, RegionLine, Rel};
 pub use expr::{Expr, Term};
 pub use insn_ops::Output;
 pub use items::Items;
+pub use memory_spans::Region;
 pub use pair::Pair;

@@ -7,7 +7,7 @@ ghost use Rattle.admission.specs.declared.admission.RegionLine.{RegionLine};
 ghost use Rattle.admission.specs.WellFormed.{AreBounds, IsNeed, IsWellFormed};
 
 use crate::admission::{Admission, Need, RegionLine, Rel};
-use machine::Region;
+use memory_spans::Region;
 
 // 2^63: what turns the signed order into the unsigned one.
 const HALF: u64 = 1 << 63;

@@ -2,7 +2,7 @@
 use admission::{Need, Output, Rel};
 use admission_text::AdmitRefusal::{BadLine, NoLive, TooMany};
 use admission_text::read_admission;
-use machine::Region;
+use memory_spans::Region;
 use std::test::Fail;
 
 const SUM: &[u8] =

@@ -8,8 +8,7 @@ use Rattle.std.proofs.lemmas.List.Folds.{list_any-append}
 use Rattle.std.proofs.lemmas.Option.{slice_get_within}
 use Rattle.insn_ops.specs.declared.output.Output.{Output}
 use Rattle.insn_ops.specs.declared.output.Output.TheVariants.{Reg, Vec}
-use Rattle.machine.specs.Difference.{IsOutput}
-use Rattle.machine.specs.Runnable.{IsWidth}
+use Rattle.insn_ops.specs.Outputs.{IsOutput, IsWidth}
 use Rattle.admission.specs.declared.expr.Expr.{Expr}
 use Rattle.admission.specs.declared.admission.Need.{Need}
 use Rattle.admission.specs.declared.admission.Need.TheVariants.{Compare, Modulo}

@@ -9,7 +9,7 @@ use Rattle.insn_table.specs.declared.insn.Function.{Function}
 use Rattle.runs.specs.Run.{run_of}
 use Rattle.runs.specs.declared.ends.RunEnd.{RunEnd}
 use Rattle.runs.specs.declared.ends.RunEnd.TheVariants.{Returned, Faulted, Unset, Running}
-use Rattle.machine.specs.declared.state.Region.{Region}
+use Rattle.memory_spans.specs.declared.region.Region.{Region}
 use Rattle.machine.specs.Frame.{SameUnwritable, has_address, is_writable}
 use Rattle.machine.specs.Machine.{Machine}
 use Rattle.memory_spans.specs.Memory.{offset_from}

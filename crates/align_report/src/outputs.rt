@@ -1,9 +1,8 @@
 //! The lines of the live outputs.
 ghost use Rattle.std.specs.Prelude.{◌≡◌, ◌++◌, ◌%◌, ◌^◌, ◌<◌, OnOk, Some, slice_get, string_bytes};
 ghost use Rattle.std.specs.List.{AllByRecursion};
-ghost use Rattle.machine.specs.Difference.{IsOutput};
+ghost use Rattle.insn_ops.specs.Outputs.{IsOutput, IsWidth};
 ghost use Rattle.machine.specs.Kept.{pure_of};
-ghost use Rattle.machine.specs.Runnable.{IsWidth};
 ghost use Rattle.admission_text.specs.Names.{general_names, names_16, names_32, names_64, names_8};
 ghost use Rattle.align_report.specs.Outputs.{output_line, output_lines, output_name, output_value};
 

@@ -8,7 +8,7 @@ use Rattle.insn_spellings.proofs.Bools.{both_true, either_true}
 use Rattle.insn_table.specs.declared.insn.Insn.{Insn}
 use Rattle.insn_table.specs.declared.insn.Operand.{Operand}
 use Rattle.insn_table.specs.declared.insn.Operand.TheVariants.{Reg, Imm, Mem, Vec, Pool, Target, Nothing}
-use Rattle.machine.specs.declared.state.Region.{Region}
+use Rattle.memory_spans.specs.declared.region.Region.{Region}
 use Rattle.machine.specs.Access.{Access, access_of, accesses, are_aligned, arity, holds_access, is_allowed, is_on_stack, operand_accesses, target_width, writes}
 use Rattle.machine.specs.Kept.{IsKept, IsRegion, Kept, pure_of}
 use Rattle.memory_spans.specs.Spans.{is_spanned}

@@ -27,7 +27,7 @@ use Rattle.runs.proofs.Guarding.{guarded-goes}
 use Rattle.machine.specs.Runnable.{IsGeneralRegister}
 use Rattle.machine.specs.Step.{after_change, after_row, allows_at, allows_step, at_place, free_step, register_number, result_of, step_of, target_operand, with_result}
 use Rattle.machine.proofs.Families.{free-goes}
-use Rattle.machine.specs.declared.state.Region.{Region}
+use Rattle.memory_spans.specs.declared.region.Region.{Region}
 use Rattle.runs.proofs.Runs.{run_keeps}
 use Rattle.machine.proofs.VectorFamilies.{IsOfWords, vectors_write, words_of, words_width}
 use Rattle.machine.proofs.Writing.{row_allowed, written_allowed}

@@ -4,7 +4,7 @@ use Rattle.std.specs.Prelude.{IfSome}
 use Rattle.std.proofs.lemmas.List.{length-map}
 use Rattle.std.specs.List.{All, AllByRecursion}
 use Rattle.lane_views.specs.declared.Bytes32.{Bytes32}
-use Rattle.machine.specs.declared.state.Region.{Region}
+use Rattle.memory_spans.specs.declared.region.Region.{Region}
 use Rattle.memory_spans.specs.declared.span.Span.{Span}
 use Rattle.machine.specs.Start.{kept_start}
 use Rattle.memory_spans.specs.Spans.{byte_of}

@@ -10,7 +10,7 @@ use Rattle.insn_table.specs.declared.insn.Operand.TheVariants.{Mem}
 use Rattle.insn_table.specs.Classes.{is_nothing}
 use Rattle.machine.specs.declared.operands.Family.{Family}
 use Rattle.machine.specs.declared.operands.Family.TheVariants.{Address, OnVectors, Popping, Pushing, Return}
-use Rattle.machine.specs.declared.state.Region.{Region}
+use Rattle.memory_spans.specs.declared.region.Region.{Region}
 use Rattle.machine.specs.Family.{family_of}
 use Rattle.machine.specs.Machine.{Machine, stack_base}
 use Rattle.memory_spans.specs.Memory.{offset_from}

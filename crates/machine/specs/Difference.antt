@@ -3,7 +3,7 @@
 --
 -- The scratch lines and the stack range are this project's own. The stack range is that of the first state, and both
 -- have the same one where both returned from one start state.
-use Rattle.std.specs.Prelude.{◌≡◌, ◌⊎◌, ℕ, ◌/◌, ◌%◌, ◌^◌, ◌<◌, Bool, true, List, [], ◌∷◌, get_or, length, slice_get, slice_index, Some, take, nat_lt}
+use Rattle.std.specs.Prelude.{◌≡◌, ℕ, ◌/◌, ◌%◌, ◌^◌, ◌<◌, Bool, true, List, [], ◌∷◌, get_or, length, slice_get, slice_index, Some, take, nat_lt}
 use Rattle.std.specs.List.{list_any}
 use Rattle.insn_ops.specs.declared.output.Output.{Output}
 use Rattle.insn_ops.specs.declared.output.Output.TheVariants.{Reg, Vec}
@@ -11,12 +11,7 @@ use Rattle.machine.specs.declared.difference.Difference.{Difference}
 use Rattle.machine.specs.declared.difference.Difference.TheVariants.{Out, Byte}
 use Rattle.machine.specs.Machine.{IsInStack, Machine}
 use Rattle.memory_spans.specs.Memory.{offset_from}
-use Rattle.machine.specs.Runnable.{IsWidth}
-
--- an output that there is: one of the sixteen registers, and a width that it has
-abbrev pub IsOutput : Output → Type 0
-IsOutput (Reg n w) = (n < 16) × IsWidth w
-IsOutput (Vec n w) = (n < 16) × ((w ≡ 128) ⊎ (w ≡ 256))
+pub use Rattle.insn_ops.specs.Outputs.{IsOutput}
 
 -- the output is equal in both states: its low bits, which of a vector are its first bytes
 abbrev pub Agree : Machine → Machine → Output → Type 0

@@ -5,7 +5,7 @@
 -- rule for stack bytes are this project's own.
 use Rattle.std.specs.Prelude.{◌≡◌, ℕ, ◌+◌, ◌^◌, ◌<◌, List, [], length, None, slice_get, slice_index, Some}
 use Rattle.insn_ops.specs.declared.op.Flags.{Flags}
-use Rattle.machine.specs.declared.state.Region.{Region}
+use Rattle.memory_spans.specs.declared.region.Region.{Region}
 use Rattle.memory_spans.specs.Memory.{offset_from}
 
 -- the state of the machine

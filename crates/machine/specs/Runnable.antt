@@ -1,5 +1,5 @@
 -- What running an instruction needs of it: widths and numbers in their ranges.
-use Rattle.std.specs.Prelude.{◌≡◌, ◌⊎◌, ℕ, ◌-◌, ◌^◌, ◌<◌, List, length, Some, slice_get}
+use Rattle.std.specs.Prelude.{◌≡◌, ℕ, ◌-◌, ◌^◌, ◌<◌, List, length, Some, slice_get}
 use Rattle.insn_ops.specs.declared.op.Op.{Op}
 use Rattle.insn_ops.specs.declared.op.Op.TheVariants as ops
 use Rattle.insn_ops.specs.declared.vector_op.VectorOp.{VectorOp}
@@ -15,10 +15,7 @@ use Rattle.machine.specs.declared.operands.Family.TheVariants.{Clearing, OnVecto
 use Rattle.machine.specs.Family.{family_of}
 use Rattle.machine.specs.Operands.{operand}
 use Rattle.machine.specs.Step.{jump_place, target_operand}
-
--- the width of a general register or of a part of it
-abbrev pub IsWidth : ℕ → Type 0
-IsWidth w = (w ≡ 8) ⊎ ((w ≡ 16) ⊎ ((w ≡ 32) ⊎ (w ≡ 64)))
+pub use Rattle.insn_ops.specs.Outputs.{IsWidth}
 
 -- the width of an instruction of a family is one of a general register, but of those on vectors
 abbrev pub HasWidth : Family → ℕ → Type 0

@@ -1,7 +1,7 @@
 -- Kept start states, and copies.
 use Rattle.std.specs.Prelude.{◌≡◌, ℕ, List, map}
 use Rattle.lane_views.specs.declared.Bytes32.{Bytes32}
-use Rattle.machine.specs.declared.state.Region.{Region}
+use Rattle.memory_spans.specs.declared.region.Region.{Region}
 use Rattle.memory_spans.specs.declared.span.Span.{Span}
 use Rattle.machine.specs.Kept.{Kept, pure_of}
 use Rattle.machine.specs.Machine.{no_flags}

@@ -27,6 +27,6 @@ pub use laws::{
     path_law, plain_functions_agree, plain_functions_return, run_law, state_law, step_frame_law,
     way_law,
 };
-pub use memory_spans::{Span, memory_law};
+pub use memory_spans::{Region, Span, memory_law};
 pub use runs::{RunEnd, StepEnd};
-pub use state::{Region, State};
+pub use state::State;

@@ -32,22 +32,14 @@ use insn_table::{Function, Insn, Op, Operand};
 use lane_ops::vector;
 use lane_views::Bytes32;
 use memory_spans::{
-    Span, byte_at, copy_spans, load, load_in, put_word, spans_hold_bytes, store, word_in, word_of,
-    zeros,
+    Region, Span, byte_at, copy_spans, load, load_in, put_word, spans_hold_bytes, store, word_in,
+    word_of, zeros,
 };
 use outcomes::Memory;
 use runs::{RunEnd, StepEnd};
 use scalar_ops::{flags, scalar};
 use std::alloc::Global;
 use std::marker::Model;
-
-/// A region of memory: `len` bytes from `base` on, which may be read, and written where `write` is.
-#[derive(Clone, Copy, Debug, PartialEq, Eq)]
-pub struct Region {
-    pub base: u64,
-    pub len: u64,
-    pub write: bool,
-}
 
 /// The state of the machine. Contracts see it as what is kept of one, and `pure_of` says what that
 /// means.

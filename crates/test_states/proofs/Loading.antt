@@ -5,11 +5,12 @@ use Rattle.std.specs.List.{Any, list_any}
 use Rattle.std.proofs.lemmas.Bool.{eq-eqb, false≢true}
 use Rattle.std.proofs.lemmas.Bool.Decides.{nat_tests}
 use Rattle.std.proofs.lemmas.List.Folds.{Any-from_list_any, list_any-from_Any}
-use Rattle.machine.specs.declared.state.Region.{Region}
+use Rattle.memory_spans.specs.declared.region.Region.{Region}
 use Rattle.machine.specs.Kept.{Kept, pure_of}
 use Rattle.machine.specs.Machine.{IsStart}
 use Rattle.admission.specs.declared.admission.Admission.{Admission}
-use Rattle.admission.specs.Admitted.{HasByte, IsAdmittedStart, regions_of}
+use Rattle.admission.specs.Admitted.{HasByte, regions_of}
+use Rattle.admitted_starts.specs.AdmittedStarts.{IsAdmittedStart}
 use Rattle.tests_text.specs.declared.test.Test.{Test}
 use Rattle.test_states.specs.declared.refusal.LoadRefusal.{LoadRefusal}
 use Rattle.test_states.specs.declared.refusal.LoadRefusal.TheVariants.{ByteOutside, Memory, NotAdmitted, RegionsLarge}

@@ -2,7 +2,7 @@
 use Rattle.std.proofs.Common.{◌≡◌, ◌⊎◌, inl, inr, ℕ, ◌≤◌, ◌==◌, Bool, true, false, ◌||◌, List, [], ◌∷◌, Option, None, Some, min, refl, sym, ◌∙◌, ap, subst, arith}
 use Rattle.std.specs.List.{list_any}
 use Rattle.std.proofs.lemmas.Bool.{cases_Bool, cases_lt, eqb-true, eq-eqb, false≢true, or_cases}
-use Rattle.machine.specs.declared.state.Region.{Region}
+use Rattle.memory_spans.specs.declared.region.Region.{Region}
 use Rattle.test_states.specs.Choosing.{is_outside, least_outside, lesser}
 
 -- the address stands in a pair

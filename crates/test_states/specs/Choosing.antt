@@ -1,7 +1,7 @@
 -- What the code finds of the regions and of the bytes that a test names.
 use Rattle.std.specs.Prelude.{ℕ, ◌-◌, Bool, not, ◌&&◌, nat_le, nat_lt, List, [], ◌∷◌, Option, Some, None, min, if◌then◌else◌}
 use Rattle.std.specs.List.{list_any}
-use Rattle.machine.specs.declared.state.Region.{Region}
+use Rattle.memory_spans.specs.declared.region.Region.{Region}
 
 -- the address is one of the region's
 abbrev pub region_has : ℕ → Region → Bool

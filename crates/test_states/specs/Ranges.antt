@@ -1,7 +1,7 @@
 -- Ranges of addresses, which become the spans of a start state.
 use Rattle.std.specs.Prelude.{◌≡◌, ℕ, ◌+◌, ◌-◌, ◌<◌, ◌≤◌, Bool, ◌&&◌, ◌||◌, nat_le, nat_lt, List, [], ◌∷◌, length, slice_index}
 use Rattle.std.specs.List.{list_any}
-use Rattle.machine.specs.declared.state.Region.{Region}
+use Rattle.memory_spans.specs.declared.region.Region.{Region}
 use Rattle.memory_spans.specs.declared.span.Span.{Span}
 use Rattle.memory_spans.specs.Memory.{offset_from}
 use Rattle.test_states.specs.declared.range.Range.{Range}

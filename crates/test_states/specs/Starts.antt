@@ -2,7 +2,7 @@
 use Rattle.std.specs.Prelude.{◌≡◌, ℕ, ◌+◌, ◌<◌, ◌≤◌, map, sum_by}
 use Rattle.std.specs.List.{Any}
 use Rattle.lane_views.specs.declared.Bytes32.{Bytes32}
-use Rattle.machine.specs.declared.state.Region.{Region}
+use Rattle.memory_spans.specs.declared.region.Region.{Region}
 use Rattle.machine.specs.Machine.{Machine, no_flags}
 use Rattle.admission.specs.declared.admission.Admission.{Admission}
 use Rattle.admission.specs.Admitted.{HasByte, IsAdmitted, regions_of}

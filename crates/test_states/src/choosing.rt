@@ -1,10 +1,10 @@
 //! Whether regions are too large, and which named byte lies in none.
 ghost use Rattle.std.specs.Prelude.{◌≡◌, ◌+◌, ◌-◌, ◌≤◌, nat_le, nat_lt, None, sum_by};
 ghost use Rattle.std.specs.List.{list_any};
-ghost use Rattle.machine.specs.declared.state.Region.{Region};
+ghost use Rattle.memory_spans.specs.declared.region.Region.{Region};
 ghost use Rattle.test_states.specs.Choosing as choosing;
 
-use machine::Region;
+use memory_spans::Region;
 
 // How many bytes regions and the declared stack bytes may have together.
 const MOST_BYTES: u64 = 65536;

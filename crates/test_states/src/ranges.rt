@@ -3,12 +3,12 @@ ghost use Rattle.std.specs.Prelude.{◌≡◌, ℕ, ◌+◌, ◌-◌, ◌%◌, �
 ghost use Rattle.std.specs.List.{All, list_any};
 ghost use Rattle.std.specs.List.Sorted.{IsNonDecreasingBy};
 ghost use Rattle.memory_spans.specs.Memory.{offset_from};
-ghost use Rattle.machine.specs.declared.state.Region.{Region};
+ghost use Rattle.memory_spans.specs.declared.region.Region.{Region};
 ghost use Rattle.test_states.specs.declared.range.Range.{Range};
 ghost use Rattle.test_states.specs.Ranges.{AreApart, IsRange, is_covered};
 
 use crate::range::Range;
-use machine::Region;
+use memory_spans::Region;
 use outcomes::Memory;
 use std::alloc::Global;
 

@@ -2,8 +2,9 @@
 ghost use Rattle.std.specs.Prelude.{◌≡◌, ◌+◌, ◌^◌, ◌<◌, ◌≤◌, ℕ, Err, IfOk, slice_index};
 ghost use Rattle.machine.specs.Kept.{pure_of};
 ghost use Rattle.machine.specs.Machine.{IsStart};
-ghost use Rattle.admission.specs.Admitted.{IsAdmitted, IsAdmittedStart, regions_of};
+ghost use Rattle.admission.specs.Admitted.{IsAdmitted, regions_of};
 ghost use Rattle.admission.specs.WellFormed.{IsWellFormed};
+ghost use Rattle.admitted_starts.specs.AdmittedStarts.{IsAdmittedStart};
 ghost use Rattle.test_states.specs.Loads.{GivesRefusal, GivesState, IsRefused, Loads};
 ghost use Rattle.test_states.specs.Ranges.{AreApart, in_either, is_covered};
 ghost use Rattle.test_states.specs.Starts.{IsInRegion, IsLoadable, IsNamed, start_of};

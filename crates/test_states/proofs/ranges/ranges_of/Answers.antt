@@ -3,7 +3,7 @@ use Rattle.std.specs.List.{list_any}
 use Rattle.std.proofs.lemmas.List.{take_all}
 use Rattle.std.proofs.lemmas.List.Sorted.{All-permutation, IsNonDecreasingBy-from_sort_by_key}
 use Rattle.memory_spans.specs.Memory.{offset_from}
-use Rattle.machine.specs.declared.state.Region.{Region}
+use Rattle.memory_spans.specs.declared.region.Region.{Region}
 use Rattle.test_states.specs.declared.range.Range.{Range}
 use Rattle.test_states.specs.Ranges.{IsRange}
 use Rattle.test_states.proofs.Joining.{joined_covers}

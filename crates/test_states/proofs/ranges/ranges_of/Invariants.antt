@@ -1,7 +1,7 @@
 use Rattle.std.proofs.Common.{◌≡◌, ℕ, ◌<◌, ◌^◌, ◌||◌, nat_lt, take}
 use Rattle.std.specs.List.{All, list_any}
 use Rattle.memory_spans.specs.Memory.{offset_from}
-use Rattle.machine.specs.declared.state.Region.{Region}
+use Rattle.memory_spans.specs.declared.region.Region.{Region}
 use Rattle.test_states.specs.Ranges.{IsRange, is_covered}
 use Rattle.test_states.proofs.ranges.ranges_of.Given as goal
 

@@ -1,6 +1,6 @@
 use Rattle.std.proofs.Common.{List, slice_index, sym, ◌∙◌, ap, subst, rules}
 use Rattle.std.specs.List.{AllByRecursion}
-use Rattle.machine.specs.declared.state.Region.{Region}
+use Rattle.memory_spans.specs.declared.region.Region.{Region}
 use Rattle.machine.specs.Kept.{pure_of}
 use Rattle.admission.specs.Admitted.{IsPlaced}
 use Rattle.test_states.proofs.Keeping.{start_is_kept, start_is_pure}
