@@ -5,13 +5,13 @@ ghost use Rattle.align_base.specs.Codes.{status_code};
 /// How a call of the program ended.
 #[derive(Clone, Copy, Debug, PartialEq, Eq)]
 pub enum Status {
-    /// The functions are equivalent.
+    /// The command was carried out, and where it decides, the functions are equivalent.
     Good,
-    /// The functions are different.
+    /// The command decided that the functions are different.
     Negative,
-    /// Neither was found. No command answers so yet.
+    /// The command found neither. No command answers so yet.
     Unknown,
-    /// An input was refused.
+    /// A file was refused, or what the files hold.
     Refused,
     /// A usage error: the arguments are no command.
     Usage,
