@@ -9,10 +9,7 @@ use Rattle.align_base.specs.declared.status.Status.{Status}
 use Rattle.align_base.specs.declared.status.Status.TheVariants as status
 use Rattle.insn_table.specs.declared.insn.Insn.{Insn}
 use Rattle.insn_table.specs.declared.insn.Function.{Function}
-use Rattle.runs.specs.Run.{Run}
-use Rattle.runs.specs.declared.ends.RunEnd.{RunEnd}
-use Rattle.machine.specs.Machine.{Machine, rax}
-use Rattle.insn_table.specs.Plain.{IsPlain}
+use Rattle.plain_functions.specs.Plain.{IsPlain}
 use Rattle.att_reader.specs.FunctionText.{IsFunctionText}
 use Rattle.admission_text.proofs.WholeTexts.{text-differs as admission-differs}
 use Rattle.att_reader.proofs.TextLaws as laws
@@ -21,10 +18,11 @@ use Rattle.command_line.specs.Command.{Command, DecidePlain, FunctionArguments, 
 use Rattle.command_line.specs.Command.{Run as ToRun}
 use Rattle.align_cli.specs.Commands.{Accepts, AreFunctions, HoldsFunction, OfPlain, Owes, RefusesContents, RefusesEither, Rejects, Says, TellsFunctions, TellsRunFiles, finals}
 use Rattle.align_cli.specs.Files.{AdmissionText, Content, FunctionText, TestsText, File, IsBadFile, IsGoodFile, IsText, ReadsFile, RefusesFile, RefusesText, files_of, function_file, limit_of}
-use Rattle.align_cli.specs.Shown.{start_at}
 use Rattle.align_cli.specs.Statuses.{IsOneOf, interruptions}
-use Rattle.align_cli.specs.Verdict.{ReportsDifferent, ReportsEquivalent, ReturnApart, ReturnTheSame}
-use Rattle.align_cli.proofs.PlainEnds.{plain-unplain}
+use Rattle.plain_functions.specs.Verdict.{ReturnApart, ReturnTheSame}
+use Rattle.plain_functions.proofs.Verdicts.{differently-same, equivalent-apart}
+use Rattle.align_report.specs.PlainReport.{ReportsDifferent, ReportsEquivalent}
+use Rattle.plain_functions.proofs.PlainEnds.{plain-unplain}
 
 -- a text is not both what it has to be and refused
 text-differs : (content : Content) (text report : List ℕ) → IsText content text → RefusesText content text report → ⊥
@@ -75,21 +73,13 @@ same_functions C D told held left right tells a b =
     let Q : Function → Type 0 = λ g. C b.f.insns g.insns in
     subst Q r (subst P l a.claim)
 
--- from the shown state both return, and not the same
+-- functions that are reported different do not return the same
 shown_differs : (left right : List Insn) (report : List ℕ) → ReportsDifferent left right report → ReturnTheSame left right → ⊥
-shown_differs left right report d same =
-    let value : Run Machine → ℕ = λ run. rax run.0 in
-    let how : Run Machine → RunEnd = λ run. run.1 in
-    let l = d.left_returns in
-    let r = d.right_returns in
-    d.differ (sym l.2 ∙ ap value (sym l.1)
-    ∙ same (start_at d.regs) d.start (length left) (length right) (length left) (length right) (ap how l.1) (ap how r.1)
-    ∙ ap value r.1 ∙ r.2)
+shown_differs left right report d same = differently-same d.regs left right d.left_value d.right_value d.different same
 
--- equivalent functions do not return apart
+-- functions that are reported equivalent do not return apart
 equivalent_same : (left right : List Insn) (report : List ℕ) → ReportsEquivalent left right report → ReturnApart left right → ⊥
-equivalent_same left right report e a =
-    a.differ (e.equivalent.same a.start a.is_start a.left_steps a.right_steps a.left_number a.right_number a.left_returns a.right_returns)
+equivalent_same left right report e apart = equivalent-apart e.bound left right e.equivalent apart
 
 -- a file that holds a function is good
 function_good : (told : Option Holding) (held : Holding) (side : Side) (arguments : FunctionArguments) (f : Function) → told ≡ Some held

@@ -34,7 +34,8 @@ use Rattle.command_line.specs.Command.{Command, DecidePlain, FunctionArguments, 
 use Rattle.align_cli.specs.Commands.{HoldsAdmission, HoldsFunction, HoldsTests}
 use Rattle.align_cli.specs.Files.{File, IsReached, file_word, ReadsFile, RefusesFile, admission_file, files_of, function_file, tests_file}
 use Rattle.align_cli.specs.Inside.{Compares, Interrupts, InterruptsTake, IsReadAdmission, IsReadFunction, IsReadTests}
-use Rattle.align_cli.specs.Report.{admission_refusal, large_refusal, line_refusal, tests_refusal}
+use Rattle.align_report.specs.PlainReport.{side_name}
+use Rattle.align_report.specs.Refusals.{admission_refusal, large_refusal, line_refusal, tests_refusal}
 use Rattle.align_cli.specs.declared.answer.Interruption.{Interruption}
 use Rattle.align_cli.specs.declared.answer.Interruption.TheVariants as interruption
 
@@ -59,7 +60,7 @@ unless-memory _ line P h other = h
 -- a text that was refused refuses the file
 pub read-refused : (told : Option Holding) (seen : ℕ) (side : Side) (arguments : FunctionArguments) (text slice report : List ℕ) (e : ReadRefusal)
     → Holds told arguments.file text → length text ≤ 16777216 → slice ≡ text → UnlessMemory e.kind e.line (IsRefused slice arguments.name e)
-    → (e.kind ≡ kinds.Memory → ⊥) → report ≡ line_refusal side e.line e.kind → RefusesFile told seen (function_file side arguments) report
+    → (e.kind ≡ kinds.Memory → ⊥) → report ≡ line_refusal (side_name side) e.line e.kind → RefusesFile told seen (function_file side arguments) report
 read-refused told seen side arguments text slice report e held small is refused other told_is =
     let P : List ℕ → Type 0 = λ t. IsRefused t arguments.name e in
     inr (record {

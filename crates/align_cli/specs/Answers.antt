@@ -11,7 +11,7 @@ use Rattle.align_base.specs.declared.status.Status.TheVariants as status
 use Rattle.command_line.specs.Command.{Command, IsUsageError, OfCommand}
 use Rattle.align_cli.specs.Commands.{RefusesContents, Says}
 use Rattle.align_cli.specs.Files.{File, IsReached, ReadsFile, RefusesFile, files_of}
-use Rattle.align_cli.specs.Report.{usage_text}
+use Rattle.align_report.specs.Usage.{usage_text}
 
 -- The command was carried out: each of its files was taken once and read, and the report says what is so.
 pub record Finishes (command : Command) (status : Status) (before after : ShelfAccount) (report : List ℕ) : Type 0 where
@@ -75,6 +75,13 @@ abbrev pub GivenPrefix : List (List ℕ) → ShelfAccount → ShelfAccount → S
 GivenPrefix arguments before after sink_before sink_after =
     (status : Status) × (report : List ℕ) × Tells arguments status before after report
     × AppendedPrefix sink_before.written sink_after.written report × (sink_after.calls ≡ count_after sink_before.calls 1)
+
+-- no give, or one by which nothing was written, where a report tells what is so
+abbrev pub GivenNothing : List (List ℕ) → ShelfAccount → ShelfAccount → SinkAccount → SinkAccount → Type 0
+GivenNothing arguments before after sink_before sink_after =
+    (sink_after ≡ sink_before)
+    ⊎ ((status : Status) × (report : List ℕ) × Tells arguments status before after report
+    × (sink_after.written ≡ sink_before.written) × (sink_after.calls ≡ count_after sink_before.calls 1))
 
 -- some calls, no more than there are files
 abbrev pub TakesSome : List File → ShelfAccount → ShelfAccount → Type 0

@@ -7,7 +7,7 @@ use Rattle.align_base.specs.declared.status.Status.{Status}
 use Rattle.align_base.specs.declared.status.Status.TheVariants as status
 use Rattle.insn_table.specs.declared.insn.Insn.{Insn}
 use Rattle.insn_table.specs.declared.insn.Function.{Function}
-use Rattle.insn_table.specs.Plain.{IsPlain}
+use Rattle.plain_functions.specs.Plain.{IsPlain}
 use Rattle.admission.specs.declared.admission.Admission.{Admission}
 use Rattle.admission_text.specs.Entries.{IsAdmissionText}
 use Rattle.align_report.specs.RunReport.{IsRunReport}
@@ -16,9 +16,10 @@ use Rattle.insn_text.specs.ShowText.{IsShown}
 use Rattle.tests_text.specs.TestFiles.{IsTestsText}
 use Rattle.tests_text.specs.declared.test.Tests.{Tests}
 use Rattle.command_line.specs.Command.{Command, DecidePlain, FunctionArguments, Run, RunArguments, Show}
-use Rattle.align_cli.specs.Plainness.{IsFirstUnplain}
-use Rattle.align_cli.specs.Report.{unplain_refusal}
-use Rattle.align_cli.specs.Verdict.{ReportsDifferent, ReportsEquivalent, ReturnApart, ReturnTheSame}
+use Rattle.plain_functions.specs.Plainness.{IsFirstUnplain}
+use Rattle.align_report.specs.Refusals.{unplain_refusal}
+use Rattle.plain_functions.specs.Verdict.{ReturnApart, ReturnTheSame}
+use Rattle.align_report.specs.PlainReport.{ReportsDifferent, ReportsEquivalent, side_name}
 
 -- the file holds a text within the limit that is this function
 pub record HoldsFunction (told : Option Holding) (arguments : FunctionArguments) (f : Function) : Type 0 where
@@ -87,7 +88,7 @@ finals (Show function) = status.Good ∷ []
 
 -- the function is not plain, and the report refuses it at its first instruction that is not
 abbrev pub RefusesUnplain : Side → List Insn → List ℕ → Type 0
-RefusesUnplain side insns report = (line : ℕ) × IsFirstUnplain insns line × (report ≡ unplain_refusal side line)
+RefusesUnplain side insns report = (line : ℕ) × IsFirstUnplain insns line × (report ≡ unplain_refusal (side_name side) line)
 
 -- the left function is not plain, or the left one is plain and the right one is not
 abbrev pub RefusesEither : List ℕ → List Insn → List Insn → Type 0

@@ -15,8 +15,8 @@ use Rattle.align_cli.specs.Answers.{FailsAtFile}
 use Rattle.command_line.specs.Command.{Command, FunctionArguments, OfCommand}
 use Rattle.align_cli.specs.Commands.{HoldsAdmission, HoldsFunction, HoldsTests, OfPlain, RefusesEither}
 use Rattle.align_cli.specs.Files.{File, RefusesFile}
-use Rattle.align_cli.specs.Report.{large_refusal}
-use Rattle.align_cli.specs.Verdict.{ReportsDifferent, ReportsEquivalent}
+use Rattle.align_report.specs.Refusals.{large_refusal}
+use Rattle.align_report.specs.PlainReport.{ReportsDifferent, ReportsEquivalent}
 use Rattle.align_cli.specs.declared.answer.Interruption.{Interruption}
 use Rattle.align_cli.specs.declared.answer.Interruption.TheVariants as interruption
 use Rattle.align_cli.specs.declared.files.Taken.{Taken}

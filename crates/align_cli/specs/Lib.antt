@@ -2,10 +2,5 @@ pub mod Answers
 pub mod Commands
 pub mod Files
 pub mod Inside
-pub mod Plainness
-pub mod Report
-pub mod Shown
 pub mod Statuses
-pub mod Sums
-pub mod Verdict
 pub mod View

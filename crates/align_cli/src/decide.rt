@@ -3,7 +3,7 @@
 ghost use Rattle.std.specs.Prelude.{◌≡◌, ◌≤◌, length, string_bytes, IfErr, IfOk, MatchOption, OnOk};
 ghost use Rattle.align_base.specs.Shelf.{NoneFailed};
 ghost use Rattle.insn_table.specs.Closed.{IsClosed};
-ghost use Rattle.insn_table.specs.Plain.{IsPlain};
+ghost use Rattle.plain_functions.specs.Plain.{IsPlain};
 ghost use Rattle.align_cli.specs.Answers.{TakesSome, TellsOf};
 ghost use Rattle.align_cli.specs.Commands.{RefusesEither};
 ghost use Rattle.align_cli.specs.Files.{files_of};
@@ -12,14 +12,12 @@ ghost use Rattle.align_cli.specs.View.{decide_view};
 
 use crate::answer::{Answer, Interruption};
 use crate::files::{Taken, function_in};
-use crate::plainness::first_unplain;
-use crate::report;
-use crate::report::Ending;
-use crate::sums::{rax_sum, telling_registers};
 use align_base::{Shelf, Status};
+use align_report::{different_text, equivalent_text, side_name, unplain_refusal};
 use command_line::FunctionArguments;
 use insn_ops::Side;
 use insn_table::Function;
+use plain_functions::{Verdict, compare, first_unplain};
 use std::alloc::{AllocError, Global};
 
 /// Compares two plain functions.
@@ -30,29 +28,12 @@ fn compared(alloc: Global, left: &Function, right: &Function) -> Result<Answer, 
     requires right_few { length right.now.insns ≤ 4096 }
     ensures { IfOk result (λ answer. Compares answer.status left.now.insns right.now.insns answer.report.items) }
 {
-    let left_sum = rax_sum(left.insns.as_slice());
-    let right_sum = rax_sum(right.insns.as_slice());
-    let left_steps = left.insns.len() as u64;
-    let right_steps = right.insns.len() as u64;
-    match telling_registers(&left_sum, &right_sum) {
-        None => Ok(Answer::new(
-            Status::Good,
-            report::equivalent(alloc, 2 * left_steps.max(right_steps))?,
+    match compare(left.insns.as_slice(), right.insns.as_slice()) {
+        Verdict::Equivalent(bound) => Ok(Answer::new(Status::Good, equivalent_text(alloc, bound)?)),
+        Verdict::Different(found) => Ok(Answer::new(
+            Status::Negative,
+            different_text(alloc, &found)?,
         )),
-        Some(regs) => {
-            let left_end = Ending {
-                steps: left_steps,
-                value: left_sum.value(&regs),
-            };
-            let right_end = Ending {
-                steps: right_steps,
-                value: right_sum.value(&regs),
-            };
-            Ok(Answer::new(
-                Status::Negative,
-                report::different(alloc, left_end, right_end, &regs)?,
-            ))
-        }
     }
 }
 
@@ -68,9 +49,9 @@ fn refusal_of_unplain(
         (λ text. RefusesEither (string_bytes text) left.now.insns right.now.insns)) }
 {
     match first_unplain(left.insns.as_slice()) {
-        Some(line) => Ok(Some(report::refused_unplain(alloc, Side::Left, line)?)),
+        Some(line) => Ok(Some(unplain_refusal(alloc, side_name(Side::Left), line)?)),
         None => match first_unplain(right.insns.as_slice()) {
-            Some(line) => Ok(Some(report::refused_unplain(alloc, Side::Right, line)?)),
+            Some(line) => Ok(Some(unplain_refusal(alloc, side_name(Side::Right), line)?)),
             None => Ok(None),
         },
     }

@@ -7,10 +7,10 @@ ghost use Rattle.align_cli.specs.Inside.{InterruptsTake, IsReadAdmission, IsRead
 ghost use Rattle.command_line.specs.View.{function_view};
 
 use crate::answer::Interruption;
-use crate::report;
 use admission::Admission;
 use admission_text::{AdmitRefusal, read_admission};
 use align_base::{Shelf, TakeFault, Word};
+use align_report::{admission_refusal, large_refusal, line_refusal, side_name, tests_refusal};
 use att_reader::{ReadKind, read_function};
 use command_line::FunctionArguments;
 use insn_ops::Side;
@@ -45,9 +45,7 @@ fn text_in<F: Shelf>(
         Ok(text) => Ok(Taken::Read(text)),
         Err(TakeFault::Failed) => Err(Interruption::Shelf),
         Err(TakeFault::Memory) => Err(Interruption::Memory),
-        Err(TakeFault::Large(seen)) => Ok(Taken::Refused(report::refused_large(
-            alloc, file, seen,
-        )?)),
+        Err(TakeFault::Large(seen)) => Ok(Taken::Refused(large_refusal(alloc, file, seen)?)),
     }
 }
 
@@ -65,7 +63,7 @@ pub fn function_in<F: Shelf>(
     ensures none_failed { OnOk result (NoneFailed (F.account shelf.old) (F.account shelf.new)) }
     ensures err { IfErr result (InterruptsTake arguments.now.file (F.account shelf.old) (F.account shelf.new)) }
 {
-    let text = match text_in(alloc, shelf, &arguments.file, report::side_name(side))? {
+    let text = match text_in(alloc, shelf, &arguments.file, side_name(side))? {
         Taken::Read(text) => text,
         Taken::Refused(large) => return Ok(Taken::Refused(large)),
     };
@@ -73,7 +71,7 @@ pub fn function_in<F: Shelf>(
         Ok(function) => Ok(Taken::Read(function)),
         Err(refusal) => match refusal.kind {
             ReadKind::Memory => Err(Interruption::Memory),
-            _ => Ok(Taken::Refused(report::refused_line(alloc, side, refusal)?)),
+            _ => Ok(Taken::Refused(line_refusal(alloc, side_name(side), refusal)?)),
         },
     }
 }
@@ -99,7 +97,7 @@ pub fn admission_in<F: Shelf>(
         Ok(admission) => Ok(Taken::Read(admission)),
         Err(refusal) => match refusal {
             AdmitRefusal::Memory => Err(Interruption::Memory),
-            _ => Ok(Taken::Refused(report::refused_admission(alloc, refusal)?)),
+            _ => Ok(Taken::Refused(admission_refusal(alloc, refusal)?)),
         },
     }
 }
@@ -125,7 +123,7 @@ pub fn tests_in<F: Shelf>(
         Ok(tests) => Ok(Taken::Read(tests)),
         Err(refusal) => match refusal {
             TestRefusal::Memory => Err(Interruption::Memory),
-            _ => Ok(Taken::Refused(report::refused_tests(alloc, refusal)?)),
+            _ => Ok(Taken::Refused(tests_refusal(alloc, refusal)?)),
         },
     }
 }

@@ -10,11 +10,8 @@
 mod answer;
 mod decide;
 mod files;
-mod plainness;
-mod report;
 mod run;
 mod show;
-mod sums;
 mod top;
 
 pub use top::align_main;

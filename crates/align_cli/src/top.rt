@@ -3,20 +3,20 @@ ghost use Rattle.std.specs.Prelude.{◌≡◌, ◌≢◌, ◌⊎◌, ◌∷◌, 
 ghost use Rattle.align_base.specs.Causes.{Rose};
 ghost use Rattle.align_base.specs.Shelf.{NoneFailed};
 ghost use Rattle.align_base.specs.declared.status.Status.{Status};
-ghost use Rattle.align_cli.specs.Answers.{FailsAtFile, Finishes, Given, GivenPrefix, RefusesCommand, TakesAtMost, Tells, TellsUsage};
+ghost use Rattle.align_cli.specs.Answers.{FailsAtFile, Finishes, Given, GivenNothing, GivenPrefix, RefusesCommand, TakesAtMost, Tells, TellsUsage};
 ghost use Rattle.command_line.specs.Command.{Command, IsCommand, IsUsageError, OfCommand};
 ghost use Rattle.align_cli.specs.Commands.{Accepts, finals, Owes, Rejects};
 ghost use Rattle.align_cli.specs.Files.{files_of, HasBadFile};
 ghost use Rattle.align_cli.specs.Inside.{InterruptsArguments};
-ghost use Rattle.align_cli.specs.Report.{usage_text};
+ghost use Rattle.align_report.specs.Usage.{usage_text};
 ghost use Rattle.align_cli.specs.Statuses.{interruptions, IsOneOf};
 
 use crate::answer::{Answer, Interruption};
 use crate::decide::decided;
-use crate::report;
 use crate::run::ran;
 use crate::show::shown;
 use align_base::{Gate, GiveFault, Shelf, Sink, Status, Word};
+use align_report::usage_text;
 use command_line::command_of;
 use std::alloc::{AllocError, Global};
 use std::thread::Threads;
@@ -25,7 +25,7 @@ use std::thread::Threads;
 fn usage(alloc: Global) -> Result<Answer, AllocError>
     ensures { IfOk result (λ answer. (answer.status ≡ Status.Usage) × (answer.report.items ≡ usage_text)) }
 {
-    Ok(Answer::new(Status::Usage, report::usage(alloc)?))
+    Ok(Answer::new(Status::Usage, usage_text(alloc)?))
 }
 
 /// What the arguments ask for, up to what is given.
@@ -113,8 +113,10 @@ pub fn align_main<R: Threads + Sync, G: Gate + Sync, F: Shelf, O: Sink>(
     ensures given_prefix { result ≡ Status.SinkFault
         → GivenPrefix arguments.now (F.account shelf.old) (F.account shelf.new) (O.account out.old) (O.account out.new) }
 
-    // Out of memory, and nothing was given.
+    // Out of memory, and nothing was written: the sink had no call, or the one that gives a report.
     ensures no_memory { result ≡ Status.NoMemory → (O.account out.new).written ≡ (O.account out.old).written }
+    ensures given_nothing { result ≡ Status.NoMemory
+        → GivenNothing arguments.now (F.account shelf.old) (F.account shelf.new) (O.account out.old) (O.account out.new) }
 
     // No more calls than the command has files, none where the arguments are no command; and every name
     // holds what it held.

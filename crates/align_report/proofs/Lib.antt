@@ -2,3 +2,4 @@ pub mod Bytes
 pub mod OneReport
 pub mod Pieces
 pub mod Running
+pub mod RegisterLines

@@ -11,8 +11,8 @@ use insn_ops::Output;
 use machine::State;
 use std::alloc::AllocError;
 
-// The name of a general register of 64 bits.
-fn name_64(n: u8) -> &'static str
+/// The name of a general register of 64 bits.
+pub fn name_64(n: u8) -> &'static str
     requires { n < 16 }
     ensures { slice_get names_64 n ≡ Some result.now }
 {

@@ -2,5 +2,4 @@ pub mod Judging
 pub mod TableInsns
 pub mod Apart
 pub mod ClosedLists
-pub mod Closing
 pub mod Built

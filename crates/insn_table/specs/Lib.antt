@@ -1,5 +1,4 @@
 pub mod Closed
-pub mod Plain
 pub mod Classes
 pub mod VectorForms
 pub mod Forms

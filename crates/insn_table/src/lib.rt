@@ -38,7 +38,4 @@ pub use insn::{Function, Insn, Insns, Operand};
 pub use insn_ops::{Cond, Flags, Op};
 pub use insn_spellings::{Shape, look_up, mnemonics_stand_once, rows_are_named, rows_have_shapes};
 pub use items::{Bytes, Items};
-pub use table::{
-    fitted_insns_are_of_the_table, forms_are_apart, plain_functions_are_closed,
-    table_insns_have_mnemonics,
-};
+pub use table::{fitted_insns_are_of_the_table, forms_are_apart, table_insns_have_mnemonics};

@@ -1,6 +1,6 @@
 //! The laws of the instruction table: functions without code, whose contracts say what holds of every
 //! instruction of the table.
-ghost use Rattle.std.specs.Prelude.{◌≡◌, ◌≤◌, ◌<◌, ◌^◌, ℕ, Bool, List, length, Some, Ok};
+ghost use Rattle.std.specs.Prelude.{◌≡◌, ◌≤◌, ℕ, Bool, List, Some, Ok};
 ghost use Rattle.std.specs.List.{AllByRecursion, count_by};
 ghost use Rattle.insn_ops.specs.declared.op.Op.{Op};
 ghost use Rattle.insn_table.specs.declared.insn.Operand.{Operand};
@@ -10,8 +10,6 @@ ghost use Rattle.insn_spellings.specs.Rows.{named};
 ghost use Rattle.insn_spellings.specs.Spellings.{table_rows};
 ghost use Rattle.insn_table.specs.Classes.{takes};
 ghost use Rattle.insn_table.specs.Forms.{forms, fits_of};
-ghost use Rattle.insn_table.specs.Plain.{IsPlain};
-ghost use Rattle.insn_table.specs.Closed.{IsClosed};
 ghost use Rattle.insn_table.specs.Table.{HasRegisters, IsTableInsn};
 
 /// A law: each instruction of the table has a mnemonic, and it is what `fits` makes of the shape that the
@@ -36,10 +34,4 @@ pub fn fitted_insns_are_of_the_table()
 /// only one.
 pub fn forms_are_apart()
     ensures { (op : Op) (vex : Bool) (w : ℕ) (args : List Operand) → count_by (takes args) (forms op vex w) ≤ 1 }
-{}
-
-/// A law: a plain function is closed.
-#[tactic(auto, using(crate::proofs::Closing::closing))]
-pub fn plain_functions_are_closed()
-    ensures { (insns : List Insn) → IsPlain insns → length insns < 2 ^ 32 → IsClosed insns }
 {}

@@ -6,9 +6,6 @@ pub mod Families
 pub mod Frames
 pub mod Keeping
 pub mod KeptStates
-pub mod Moves
-pub mod PlainLaws
-pub mod PlainRuns
 pub mod RowValues
 pub mod Closed
 pub mod StateRanges

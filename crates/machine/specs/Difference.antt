@@ -63,7 +63,3 @@ pub record IsFirstByte (scratch : List (ℕ × ℕ)) (s t : Machine) (at : ℕ) 
 abbrev pub IsFirstDifference : List Output → List (ℕ × ℕ) → Machine → Machine → Difference → Type 0
 IsFirstDifference live scratch s t (Out k) = IsFirstOutput live s t k
 IsFirstDifference live scratch s t (Byte at) = AgreeBefore live s t (length live) × IsFirstByte scratch s t at
-
--- two states have the same end in the short form, whose one live output is %rax, and which has no scratch line
-abbrev pub SamePlainEnd : Machine → Machine → Type 0
-SamePlainEnd s t = SameEnd (Reg 0 64 ∷ []) [] s t

@@ -14,4 +14,3 @@ pub mod Start
 pub mod Step
 pub mod VectorAccess
 pub mod Vectors
-pub mod Straight

@@ -60,12 +60,6 @@ pub record IsStart (s : Machine) : Type 0 where
   pub entered : s.regs ≡ s.entry
   pub unset : s.flags ≡ no_flags
 
--- a start state of the short form: no region and no stack bytes, any vectors and any memory
-pub record IsPlainStart (s : Machine) : Type 0 where
-  pub start : IsStart s
-  pub no_region : s.regions ≡ []
-  pub no_stack : s.stack ≡ 0
-
 -- what %rax holds, register 0
 abbrev pub rax : Machine → ℕ
 rax s = slice_index s.regs 0

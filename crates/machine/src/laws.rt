@@ -1,36 +1,15 @@
 //! Laws of steps and runs, as contracts of functions that do nothing.
-ghost use Rattle.std.specs.Prelude.{◌≡◌, ℕ, ◌+◌, ◌*◌, ◌^◌, ◌<◌, true, false, List, Option, Some, length, max, slice_get, slice_index};
+ghost use Rattle.std.specs.Prelude.{◌≡◌, ℕ, ◌+◌, ◌^◌, ◌<◌, true, false, List, Option, Some, length, slice_get, slice_index};
 ghost use Rattle.std.specs.List.{list_any};
 ghost use Rattle.insn_table.specs.declared.insn.Insn.{Insn};
-ghost use Rattle.insn_table.specs.Plain.{IsPlain};
 ghost use Rattle.insn_table.specs.Closed.{IsClosed};
-ghost use Rattle.machine.specs.Difference.{SamePlainEnd};
-ghost use Rattle.runs.specs.Equivalent.{AreEquivalent};
 ghost use Rattle.machine.specs.Frame.{SameFrame, SameUnwritable, SameVector, writes_vector};
-ghost use Rattle.machine.specs.Machine.{IsPlainStart, IsState, Machine};
+ghost use Rattle.machine.specs.Machine.{IsState, Machine};
 ghost use Rattle.runs.specs.Path.{Arrived, Back, FallsAtFirst, FallsWithin, Fell, Through, allowed_along, way};
 ghost use Rattle.runs.specs.Run.{Goes, IsOver, later, run_of};
 ghost use Rattle.runs.specs.declared.ends.RunEnd.{RunEnd};
 ghost use Rattle.runs.specs.declared.ends.RunEnd.TheVariants.{Returned, Running};
 ghost use Rattle.machine.specs.Step.{allows_step, free_step, step_of};
-ghost use Rattle.machine.specs.Straight.{LeaveTheSame, OnlyReturns};
-
-use insn_table::Function;
-
-/// The law that a plain function, with any pool of constants, returns at its last instruction from
-/// each start state, and ends in no other way. It does nothing.
-pub fn plain_functions_return(f: &Function)
-    requires { IsPlain f.now.insns }
-    ensures { (pool : List ℕ) (s : Machine) → IsPlainStart s → OnlyReturns f.now.insns pool s }
-{}
-
-/// The law that two plain functions, with any pools of constants, are equivalent where their moves
-/// leave the same in %rax. It does nothing.
-pub fn plain_functions_agree(f: &Function, g: &Function)
-    requires { LeaveTheSame f.now.insns g.now.insns }
-    ensures { (pool_f pool_g : List ℕ) → AreEquivalent IsPlainStart SamePlainEnd
-        (2 * max (length f.now.insns) (length g.now.insns)) (step_of f.now.insns pool_f) (step_of g.now.insns pool_g) }
-{}
 
 /// The laws of runs, which hold of every step: a run that is over stays as it is, and a run of l + m
 /// steps is one of l steps and, from where it has come to, one of m. It does nothing.

@@ -23,10 +23,7 @@ mod vector_access;
 mod vectors;
 
 pub use difference::{Difference, difference_law};
-pub use laws::{
-    path_law, plain_functions_agree, plain_functions_return, run_law, state_law, step_frame_law,
-    way_law,
-};
-pub use memory_spans::{Region, Span, memory_law};
+pub use laws::{path_law, run_law, state_law, step_frame_law, way_law};
+pub use memory_spans::{Span, memory_law};
 pub use runs::{RunEnd, StepEnd};
 pub use state::State;

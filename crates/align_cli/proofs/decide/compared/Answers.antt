@@ -1,26 +1,31 @@
-use Rattle.std.proofs.Common.{rules}
 use Rattle.align_base.specs.declared.status.Status.TheVariants as status
 use Rattle.align_cli.specs.Inside.{Compares}
 use Rattle.align_cli.proofs.Reaching.{answer-as}
-use Rattle.align_cli.proofs.Verdicts.{sums_agree, sums_differ}
 use Rattle.align_cli.proofs.decide.compared.Goals as goal
 
-pub returns-in_ok-equivalent-in-None : goal.returns-in_ok-equivalent-in-None
-returns-in_ok-equivalent-in-None c =
-    let few = c.requires.left_few in
-    let few_too = c.requires.right_few in
+pub returns-in_ok-equivalent_text-in-Equivalent : goal.returns-in_ok-equivalent_text-in-Equivalent
+returns-in_ok-equivalent_text-in-Equivalent c =
     answer-as (λ s report. Compares s c.args.left.now.insns c.args.right.now.insns report) status.Good _ _ _ c.new.ensures.status c.new.ensures.report (
       c.requires.left_plain,
       c.requires.right_plain,
-      sums_agree _ _ c.rax_sum-left_sum.result c.rax_sum-right_sum.result _ _ c.requires.left_plain c.requires.right_plain
-          (rw c.as_slice.ensures at c.rax_sum-left_sum.ensures) (rw c.as_slice-2.ensures at c.rax_sum-right_sum.ensures) (search rules) (search rules) few few_too c.in_ok-equivalent-in-None.ensures,
+      record {
+        bound = _;
+        equivalent = rw (c.as_slice.ensures, c.as_slice-2.ensures) at c.in-Equivalent.ensures;
+        report_is = c.in_ok-equivalent_text-in-Equivalent.ensures;
+      },
     )
 
-pub returns-in_ok-different-in-Some : goal.returns-in_ok-different-in-Some
-returns-in_ok-different-in-Some c =
-    answer-as (λ s report. Compares s c.args.left.now.insns c.args.right.now.insns report) status.Negative _ _ _ c.new-in-Some.ensures.status c.new-in-Some.ensures.report (
+pub returns-in_ok-different_text-in-Different : goal.returns-in_ok-different_text-in-Different
+returns-in_ok-different_text-in-Different c =
+    let found = rw (c.as_slice.ensures, c.as_slice-2.ensures) at c.in-Different.ensures in
+    answer-as (λ s report. Compares s c.args.left.now.insns c.args.right.now.insns report) status.Negative _ _ _ c.new-in-Different.ensures.status c.new-in-Different.ensures.report (
       c.requires.left_plain,
       c.requires.right_plain,
-      sums_differ _ _ c.rax_sum-left_sum.result c.rax_sum-right_sum.result c.in-Some.regs c.value.result c.value-in-Some.result _ c.requires.left_plain c.requires.right_plain
-          (rw c.as_slice.ensures at c.rax_sum-left_sum.ensures) (rw c.as_slice-2.ensures at c.rax_sum-right_sum.ensures) c.in-Some.ensures.some c.value.ensures c.value-in-Some.ensures (search rules),
+      record {
+        regs = _;
+        left_value = _;
+        right_value = _;
+        different = found.different;
+        report_is = rw (found.left_steps, found.right_steps) at c.in_ok-different_text-in-Different.ensures;
+      },
     )

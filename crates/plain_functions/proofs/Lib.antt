@@ -1,0 +1,9 @@
+pub mod Closing
+pub mod Keeping
+pub mod Moves
+pub mod PlainEnds
+pub mod PlainLaws
+pub mod PlainRuns
+pub mod Products
+pub mod Tracking
+pub mod Verdicts
