@@ -1,7 +1,6 @@
 -- The text of an instruction gives one of the table, which jumps to places that labels lead to.
-use Rattle.std.proofs.Common.{◌≡◌, ℕ, ◌-◌, ◌<◌, ◌≤◌, Bool, true, false, cond, eqb, ◌&&◌, ◌||◌, if◌then◌else◌, inl, inr, List, [], ◌∷◌, ◌++◌, length, replicate, Option, Some, None, Ok, Err, IfSome, zero, suc, sym, subst, arith}
+use Rattle.std.proofs.Common.{◌≡◌, ℕ, ◌-◌, ◌<◌, Bool, true, false, cond, eqb, ◌&&◌, ◌||◌, if◌then◌else◌, inl, inr, List, [], ◌∷◌, ◌++◌, length, replicate, Option, Some, None, Ok, Err, IfSome, zero, suc, sym, subst}
 use Rattle.std.specs.List.{AllByRecursion}
-use Rattle.std.proofs.lemmas.Option.{slice_get_within}
 use Rattle.insn_ops.specs.declared.op.Op.{Op}
 use Rattle.insn_table.specs.declared.insn.Operand.{Operand}
 use Rattle.insn_table.specs.declared.insn.Operand.TheVariants.{Reg, Vec, Nothing}
@@ -12,33 +11,16 @@ use Rattle.insn_table.specs.Forms.{chosen, is_shift, is_lone, counted_once, comp
 use Rattle.insn_table.specs.Table.{IsScale, HasRegisters, IsTableInsn}
 use Rattle.insn_table.specs.Closed.{IsInside}
 use Rattle.insn_table.proofs.TableInsns.{fitted-insn}
-use Rattle.att_statements.specs.Operands.{register_names, IsRegisterText, IsBase, IsIndex, AreAddressParts, Written, Immediate, Label, Plain, IsOperandText, IsOperandPart}
+use Rattle.register_names.proofs.NameTexts.{names_there}
+use Rattle.att_statements.specs.Operands.{IsRegisterText, IsBase, IsIndex, AreAddressParts, Written, Immediate, Label, Plain, IsOperandText, IsOperandPart}
 use Rattle.att_statements.specs.Statements.{AreWritten, StandsFor, StandFor, HasPlace, four, IsInsnText}
 
 -- what an operand of a function of n instructions may be
 abbrev IsClosedOperand : ℕ → Operand → Type 0
 IsClosedOperand n o = HasRegisters o × IsInside n o
 
-either_few : {X : Type 0} (t : Bool) (xs ys : List X) → length xs ≤ 16 → length ys ≤ 16 → length (cond t xs ys) ≤ 16
-either_few true xs ys h k = h
-either_few false xs ys h k = k
-
-names_few : (w : ℕ) → length (register_names w) ≤ 16
-names_few w =
-    let wholes : List (List ℕ) = cond (eqb w 256) (register_names 256) [] in
-    let vectors : List (List ℕ) = cond (eqb w 128) (register_names 128) wholes in
-    let bytes : List (List ℕ) = cond (eqb w 8) (register_names 8) vectors in
-    let words : List (List ℕ) = cond (eqb w 16) (register_names 16) bytes in
-    let longs : List (List ℕ) = cond (eqb w 32) (register_names 32) words in
-    either_few (eqb w 64) (register_names 64) longs (omega arith)
-    (either_few (eqb w 32) (register_names 32) words (omega arith)
-    (either_few (eqb w 16) (register_names 16) bytes (omega arith)
-    (either_few (eqb w 8) (register_names 8) vectors (omega arith)
-    (either_few (eqb w 128) (register_names 128) wholes (omega arith)
-    (either_few (eqb w 256) (register_names 256) [] (omega arith) (omega arith))))))
-
 register-below : (text : List ℕ) (n w : ℕ) → IsRegisterText text n w → n < 16
-register-below text n w h = omega (arith, slice_get_within (register_names w) n h.name h.known, names_few w)
+register-below text n w h = (names_there.alone h.name w n h.known).1
 
 base-below : (part : List ℕ) (base : Option ℕ) → IsBase part base → IfSome base (λ n. n < 16)
 base-below part base (inl none) = subst (λ o. IfSome o (λ n. n < 16)) (sym none.1) tt

@@ -7,7 +7,7 @@ use Rattle.insn_table.specs.Classes.{greatest_immediate, immediate_depth, is_imm
 use Rattle.insn_table.specs.declared.insn.Operand.TheVariants.{Imm}
 use Rattle.att_statements.specs.Operands.{Immediate, IsBetween, IsOperandText}
 use Rattle.att_statements.specs.Statements.{word_of}
-use Rattle.insn_text.proofs.Decimals.{printed-decimal}
+use Rattle.text_parts.proofs.Printed.{decimal-is}
 use Rattle.insn_text.specs.InsnText.{number_text, numbers_of, operand_text}
 use Rattle.att_round_trip.proofs.Tokens.{IsToken, number-token}
 
@@ -48,7 +48,7 @@ again-by m greatest depth bound v true is low few far here there =
     record {
       negative = false;
       amount = v % m;
-      read = rw is (decimal (v % m), refl, inl (printed-decimal (v % m) low));
+      read = rw is (decimal (v % m), refl, inl (decimal-is (v % m) low));
       token = number-token m v true is low (λ e. cc);
       same = facts.same;
       within = few refl;
@@ -62,7 +62,7 @@ again-by m greatest depth bound v false is low few far here there =
     record {
       negative = true;
       amount = m - v % m;
-      read = rw is (codes "-" ++ decimal (m - v % m), refl, (decimal (m - v % m), refl, inl (printed-decimal (m - v % m) (omega arith))));
+      read = rw is (codes "-" ++ decimal (m - v % m), refl, (decimal (m - v % m), refl, inl (decimal-is (m - v % m) (omega arith))));
       token = number-token m v false is low (λ e. omega arith);
       same = facts.same;
       within = less;

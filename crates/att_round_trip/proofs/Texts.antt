@@ -23,7 +23,7 @@ use Rattle.text_lines.specs.Cutting.{first_line, items_of_text, line_of}
 use Rattle.text_lines.specs.Lines.{AreLines, IsLabelled, IsLine, IsUncommented, Item, Label, Statement, is_visible}
 use Rattle.text_lines.specs.Texts.{AreItems, is_long}
 use Rattle.text_lines.specs.Words.{IsPadded, behind_prefix, is_solid, prefix_of, trim, trim_end}
-use Rattle.att_statements.proofs.PartTexts.{cut-only}
+use Rattle.text_parts.proofs.CutTexts.{cut-only}
 use Rattle.att_statements.proofs.StatementTexts.{looked-up}
 use Rattle.att_statements.specs.ReadingStatements.{four_in, insn_with, is_repeated_return, next_part, operands_of, shown_of, statement_of}
 use Rattle.att_statements.specs.Statements.{IsInsnText, LeadsTo}

@@ -7,8 +7,9 @@ use Rattle.std.proofs.lemmas.Bool.Decides.{nat_tests}
 use Rattle.std.proofs.lemmas.Fmt.{decimal_by_steps, decimal_nonempty, length-decimal-le}
 use Rattle.std.proofs.lemmas.List.Folds.{list_all-append}
 use Rattle.insn_spellings.proofs.Bools.{both_true}
-use Rattle.att_statements.proofs.RegisterTexts.{all-names}
-use Rattle.att_statements.specs.Operands.{IsUncut, open_after, open_behind, register_names}
+use Rattle.register_names.proofs.NameTexts.{all-names}
+use Rattle.register_names.specs.Names.{register_names}
+use Rattle.att_statements.specs.Operands.{IsUncut, open_after, open_behind}
 use Rattle.insn_text.specs.InsnText.{displacement_text, memory_text, number_text, register_text, scaled_text}
 
 -- a printable byte that is no blank, begins no comment and ends no label

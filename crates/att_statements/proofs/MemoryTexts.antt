@@ -9,9 +9,12 @@ use Rattle.insn_table.specs.Table.{IsScale}
 use Rattle.text_lines.specs.Words.{IsPadded, trim}
 use Rattle.text_lines.proofs.Trimming.{trim-known, trim-only}
 use Rattle.att_statements.specs.Operands.{IsNumber, integer, IsBetween, IsDisplacement, IsAddressRegister, IsBase, IsIndex, IsScaleText, AreAddressParts, IsParenthesised, IsMemoryText}
-use Rattle.att_statements.specs.ReadingOperands.{◌>>=◌, after_byte, number_of, small_integer, displacement_in, register_number, address_register, base_of, index_of, scale_by, scale_of, Address, address_in, parts_from, memory_of}
-use Rattle.att_statements.proofs.NumberTexts.{chosen_then, chosen_else, bind_some, map_some, after_byte-known, number-known, number-only}
-use Rattle.att_statements.proofs.RegisterTexts.{number-named, wide-named}
+use Rattle.text_parts.specs.Cuts.{◌>>=◌, after_byte}
+use Rattle.register_names.specs.Reading.{register_number}
+use Rattle.register_names.proofs.NameTexts.{number-named, number-only}
+use Rattle.text_parts.proofs.Options.{chosen_then, chosen_else, bind_some, map_some, after_byte-known}
+use Rattle.att_statements.specs.ReadingOperands.{number_of, small_integer, displacement_in, address_register, base_of, index_of, scale_by, scale_of, Address, address_in, parts_from, memory_of}
+use Rattle.att_statements.proofs.NumberTexts.{signed_number-known, signed_number-only}
 use Rattle.att_statements.proofs.PartTexts.{parts-known, parts-only}
 
 -- displacements
@@ -52,7 +55,7 @@ displacement-by : (text : List ℕ) (disp : ℤ) (t : Bool) → eqb (length text
 displacement-by text disp true none h = inl (empty-text text (eqb-true (length text) 0 none), sym (same_Some (pos 0) disp h))
 displacement-by text disp false some h =
     let found = bind_some (number_of text) small_integer disp h in
-    let number = number-known text found.0 found.1 in
+    let number = signed_number-known text found.0 found.1 in
     let small = small-known found.0.0 found.0.1 number.0 disp number.2 found.2 in
     inr (found.0.0, number.0, number.1, small.0, small.1)
 
@@ -66,7 +69,7 @@ some-byte b bs text is = ne_eqb (length text) 0 (λ e. omega (arith, ap length i
 
 some-text : (text : List ℕ) (negative : Bool) (n : ℕ) → IsNumber text negative n → eqb (length text) 0 ≡ false
 some-text text true n (amount, is, a) = some-byte 45 amount text is
-some-text text false n (inl d) = let long = d.digits.some in ne_eqb (length text) 0 (λ e. omega arith)
+some-text text false n (inl d) = let long = d.digits.0 in ne_eqb (length text) 0 (λ e. omega arith)
 some-text text false n (inr d) = some-byte 48 (120 ∷ d.behind) text d.spelled
 
 pub displacement-only : (text : List ℕ) (disp : ℤ) → IsDisplacement text disp → displacement_in text ≡ Some disp
@@ -74,7 +77,7 @@ unfolding displacement_in
 displacement-only text disp (inl p) = rw p.0 (ap (λ (d : ℤ). Some d) (sym p.1))
 displacement-only text disp (inr (negative, n, number, between, means)) =
     let some = some-text text negative n number in
-    let found = number-only text negative n number in
+    let found = signed_number-only text negative n number in
     rw (some, found) (small-only negative n between ∙ ap (λ (d : ℤ). Some d) (sym means))
 
 -- base, index and scale
@@ -89,7 +92,7 @@ pub address_register-only : (part : List ℕ) (n : ℕ) → IsAddressRegister pa
 unfolding address_register after_byte
 address_register-only part n (text, padded, r) =
     let trimmed = trim-only part text padded in
-    let named = wide-named r.name n r.known in
+    let named = number-only 64 r.name n r.known in
     rw (trimmed, r.spelled, named) refl
 
 base-by : (part : List ℕ) (base : Option ℕ) (t : Bool) → eqb (length (trim part)) 0 ≡ t

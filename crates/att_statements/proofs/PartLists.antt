@@ -13,11 +13,12 @@ use Rattle.text_lines.specs.Words.{trim}
 use Rattle.text_lines.proofs.Trimming.{trim-known, trim-only}
 use Rattle.att_statements.specs.Operands.{Written, Immediate, Label, Plain, IsOperandPart}
 use Rattle.att_statements.specs.Statements.{AreWritten, word_of, StandsFor, StandFor, HasPlace, greatest_written, is_movabs, IsWithin, four, HasSuch}
-use Rattle.att_statements.specs.ReadingOperands.{◌>>=◌, are_none, written_of}
+use Rattle.text_parts.specs.Cuts.{◌>>=◌}
+use Rattle.text_parts.proofs.Options.{map_some}
+use Rattle.att_statements.specs.ReadingOperands.{are_none, written_of}
 use Rattle.att_statements.specs.ReadingStatements.{is_beyond, no_part, part_of, part_in, next_part, parts_in, gathered, four_in}
 use Rattle.att_statements.specs.declared.part.Part.{Part}
-use Rattle.att_statements.proofs.NumberTexts.{map_some}
-use Rattle.att_statements.proofs.WrittenTexts.{capped, written-known, written-only}
+use Rattle.att_statements.proofs.WrittenTexts.{capped_written, written-known, written-only}
 
 -- something of a list
 
@@ -47,15 +48,15 @@ such-any p P xs h s = any-at p xs s.place s.item s.there (h s.item s.such)
 greatest-small : (op : Op) → greatest_written op < 2 ^ 64
 greatest-small op = elim (is_movabs op) as (λ t. cond t (2 ^ 64 - 1) (2 ^ 63 - 1) < 2 ^ 64) [ true ↦ omega arith | false ↦ omega arith ]
 
-word-capped : (negative : Bool) (n : ℕ) → word_of negative (min n (2 ^ 64)) ≡ word_of negative n
-word-capped false n =
+word-capped_written : (negative : Bool) (n : ℕ) → word_of negative (min n (2 ^ 64)) ≡ word_of negative n
+word-capped_written false n =
     elim (ltb n (2 ^ 64)) as (λ t. ltb n (2 ^ 64) ≡ t → cond (ltb (min n (2 ^ 64)) (2 ^ 64)) (min n (2 ^ 64)) 0 ≡ cond t n 0) [
       | true ↦ λ e.
           let same : min n (2 ^ 64) ≡ n = omega (arith, ltb-true n (2 ^ 64) e) in rw (same, e) refl
       | false ↦ λ e.
           let same : min n (2 ^ 64) ≡ 2 ^ 64 = omega (arith, ltb-false n (2 ^ 64) e) in rw same refl
     ] refl
-word-capped true n =
+word-capped_written true n =
     elim (leb n (2 ^ 63)) as (λ t. leb n (2 ^ 63) ≡ t → cond (leb (min n (2 ^ 64)) (2 ^ 63)) ((2 ^ 64 - min n (2 ^ 64)) % 2 ^ 64) 0 ≡ cond t ((2 ^ 64 - n) % 2 ^ 64) 0) [
       | true ↦ λ e.
           let same : min n (2 ^ 64) ≡ n = omega (arith, leb-true n (2 ^ 63) e) in rw (same, e) refl
@@ -63,23 +64,23 @@ word-capped true n =
           let high : leb (min n (2 ^ 64)) (2 ^ 63) ≡ false = lt-leb (min n (2 ^ 64)) (2 ^ 63) (omega (arith, leb-false n (2 ^ 63) e)) in rw high refl
     ] refl
 
-ltb-capped : (bound n : ℕ) → bound < 2 ^ 64 → ltb bound (min n (2 ^ 64)) ≡ ltb bound n
-ltb-capped bound n small =
+ltb-capped_written : (bound n : ℕ) → bound < 2 ^ 64 → ltb bound (min n (2 ^ 64)) ≡ ltb bound n
+ltb-capped_written bound n small =
     elim (ltb bound n) as (λ t. ltb bound n ≡ t → ltb bound (min n (2 ^ 64)) ≡ t) [
       | true ↦ λ e. lt-ltb bound (min n (2 ^ 64)) (omega (arith, ltb-true bound n e))
       | false ↦ λ e. le-ltb bound (min n (2 ^ 64)) (omega (arith, ltb-false bound n e))
     ] refl
 
-beyond-capped : (op : Op) (negative : Bool) (n : ℕ) → is_beyond op negative (min n (2 ^ 64)) ≡ is_beyond op negative n
-beyond-capped op false n = ltb-capped (greatest_written op) n (greatest-small op)
-beyond-capped op true n = ltb-capped (2 ^ 63) n (omega arith)
+beyond-capped_written : (op : Op) (negative : Bool) (n : ℕ) → is_beyond op negative (min n (2 ^ 64)) ≡ is_beyond op negative n
+beyond-capped_written op false n = ltb-capped_written (greatest_written op) n (greatest-small op)
+beyond-capped_written op true n = ltb-capped_written (2 ^ 63) n (omega arith)
 
-part-capped : (target : List ℕ → Option ℕ) (op : Op) (w : Written) → part_of target op (capped w) ≡ part_of target op w
-part-capped target op (Immediate negative n) =
-    let word = word-capped negative n in
-    let beyond = beyond-capped op negative n in rw (word, beyond) refl
-part-capped target op (Label name) = refl
-part-capped target op (Plain operand) = refl
+part-capped_written : (target : List ℕ → Option ℕ) (op : Op) (w : Written) → part_of target op (capped_written w) ≡ part_of target op w
+part-capped_written target op (Immediate negative n) =
+    let word = word-capped_written negative n in
+    let beyond = beyond-capped_written op negative n in rw (word, beyond) refl
+part-capped_written target op (Label name) = refl
+part-capped_written target op (Plain operand) = refl
 
 -- a part that is read is what its text says
 pub part-known : (target : List ℕ → Option ℕ) (op : Op) (text : List ℕ) (part : Part) → part_in target op text ≡ Some part
@@ -88,7 +89,7 @@ unfolding part_in
 part-known target op text part h =
     let p = map_some (written_of (trim text)) (part_of target op) part h in
     let w = written-known (trim text) p.0 p.1 in
-    (w.0, (trim text, trim-known text, w.1), sym p.2 ∙ ap (part_of target op) w.2 ∙ part-capped target op w.0)
+    (w.0, (trim text, trim-known text, w.1), sym p.2 ∙ ap (part_of target op) w.2 ∙ part-capped_written target op w.0)
 
 -- what a part's text says is read
 pub part-only : (target : List ℕ → Option ℕ) (op : Op) (text : List ℕ) (w : Written) → IsOperandPart text w → part_in target op text ≡ Some (part_of target op w)
@@ -96,7 +97,7 @@ unfolding part_in
 part-only target op text w (inner, padded, says) =
     let trimmed = trim-only text inner padded in
     let some = written-only inner w says in
-    rw (trimmed, some) (ap (λ p. Some p) (part-capped target op w))
+    rw (trimmed, some) (ap (λ p. Some p) (part-capped_written target op w))
 
 -- operands one after another
 

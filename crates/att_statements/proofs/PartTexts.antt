@@ -1,13 +1,14 @@
 -- Texts cut at commas outside parentheses, at parentheses and at a last byte.
-use Rattle.std.proofs.Common.{◌≡◌, ◌≢◌, ℕ, suc, ◌+◌, ◌-◌, ◌<◌, inl, inr, Bool, true, false, ◌&&◌, cond, eqb, ltb, not, List, [], ◌∷◌, ◌++◌, length, take, get_or, Option, Some, None, refl, sym, ap, ◌∙◌, subst, arith, length-append}
-use Rattle.std.specs.List.{list_all}
-use Rattle.std.proofs.lemmas.Bool.{and_parts, and_from, and_cases, ltb-true, lt-ltb, eqb-true, eqb-false, ne_eqb, not-true}
+use Rattle.std.proofs.Common.{◌≡◌, ◌≢◌, ℕ, suc, ◌+◌, ◌-◌, ◌<◌, inl, inr, true, false, ◌&&◌, cond, eqb, ltb, List, [], ◌∷◌, ◌++◌, length, take, get_or, Some, None, refl, sym, ap, ◌∙◌, subst, arith, length-append}
+use Rattle.std.proofs.lemmas.Bool.{and_parts, and_cases, ltb-true, lt-ltb, eqb-true, eqb-false, ne_eqb}
 use Rattle.std.proofs.lemmas.Option.{same_Some}
 use Rattle.std.proofs.Math.Seq.{take-append_seam, get_or-append_seam, take-suc, take-length}
-use Rattle.text_lines.specs.Cutting.{onto_front, cut_at}
+use Rattle.text_parts.specs.Cuts.{◌>>=◌, cut_at}
+use Rattle.text_parts.proofs.CutTexts.{cut-known, cut-none, cut-only, lacks}
+use Rattle.text_parts.proofs.Options.{bind_some, chosen_then}
 use Rattle.att_statements.specs.Operands.{open_behind, open_after, IsUncut, AreParts, IsParenthesised}
-use Rattle.att_statements.specs.ReadingOperands.{◌>>=◌, onto_first, are_none, parts_from, before_byte, parenthesised}
-use Rattle.att_statements.proofs.NumberTexts.{bind_some, chosen_then, heads}
+use Rattle.att_statements.specs.ReadingOperands.{onto_first, are_none, parts_from, before_byte, parenthesised}
+use Rattle.att_statements.proofs.NumberTexts.{heads}
 
 -- commas
 
@@ -90,49 +91,6 @@ parts-only n text (part ∷ next ∷ parts) are =
 
 -- parentheses
 
--- there is no such byte
-abbrev pub lacks : ℕ → List ℕ → Bool
-lacks byte text = list_all (λ b. not (eqb b byte)) text
-
-front_some : (b : ℕ) (o : Option (List ℕ × List ℕ)) (x : List ℕ × List ℕ) → onto_front b o ≡ Some x → (y : List ℕ × List ℕ) × (o ≡ Some y) × (x.0 ≡ b ∷ y.0) × (x.1 ≡ y.1)
-front_some b None x h = cc
-front_some b (Some y) x h =
-    let same = same_Some (b ∷ y.0, y.1) x h in
-    (y, refl, ap (λ (p : List ℕ × List ℕ). p.0) (sym same), ap (λ (p : List ℕ × List ℕ). p.1) (sym same))
-
-pub cut-known : (byte : ℕ) (text : List ℕ) (x : List ℕ × List ℕ) → cut_at byte text ≡ Some x → (text ≡ x.0 ++ byte ∷ x.1) × (lacks byte x.0 ≡ true)
-unfolding cut_at
-cut-known byte [] x h = cc
-cut-known byte (b ∷ bs) x h =
-    elim (eqb b byte) as (λ t. eqb b byte ≡ t → cond t (Some ([], bs)) (onto_front b (cut_at byte bs)) ≡ Some x → (b ∷ bs ≡ x.0 ++ byte ∷ x.1) × (lacks byte x.0 ≡ true)) [
-      | true ↦ λ e found.
-          let same = same_Some ([], bs) x found in
-          subst (λ (p : List ℕ × List ℕ). (b ∷ bs ≡ p.0 ++ byte ∷ p.1) × (lacks byte p.0 ≡ true)) same (ap (λ (y : ℕ). y ∷ bs) (eqb-true b byte e), refl)
-      | false ↦ λ e found.
-          let p = front_some b (cut_at byte bs) x found in
-          let more = cut-known byte bs p.0 p.1 in (
-            ap (λ (xs : List ℕ). b ∷ xs) more.0 ∙ sym (ap (λ (xs : List ℕ). xs ++ byte ∷ x.1) p.2 ∙ ap (λ (xs : List ℕ). (b ∷ p.0.0) ++ byte ∷ xs) p.3),
-            ap (lacks byte) p.2 ∙ and_from (not (eqb b byte)) (lacks byte p.0.0) (ap not e) more.1,
-          )
-    ] refl h
-
-pub cut-only : (byte : ℕ) (x y : List ℕ) → eqb byte byte ≡ true → lacks byte x ≡ true → cut_at byte (x ++ byte ∷ y) ≡ Some (x, y)
-unfolding cut_at
-cut-only byte [] y same h = rw same refl
-cut-only byte (b ∷ bs) y same h =
-    let p = and_parts (not (eqb b byte)) (lacks byte bs) h in
-    let other = not-true (eqb b byte) p.0 in
-    rw other (ap (onto_front b) (cut-only byte bs y same p.1))
-
--- a text without such a byte isn't cut
-pub cut-none : (byte : ℕ) (text : List ℕ) → lacks byte text ≡ true → cut_at byte text ≡ None
-unfolding cut_at
-cut-none byte [] h = refl
-cut-none byte (b ∷ bs) h =
-    let p = and_parts (not (eqb b byte)) (lacks byte bs) h in
-    let other = not-true (eqb b byte) p.0 in
-    rw other (ap (onto_front b) (cut-none byte bs p.1))
-
 -- the last byte
 last_off : (byte : ℕ) (text : List ℕ) → 0 < length text → get_or text (length text - 1) 0 ≡ byte → text ≡ take (length text - 1) text ++ byte ∷ []
 last_off byte text some is =
@@ -183,11 +141,6 @@ parenthesised-none text h = let none = cut-none 40 text h in rw none refl
 abbrev pub onto_parts : List ℕ → List (List ℕ) → List (List ℕ)
 onto_parts front [] = []
 onto_parts front (part ∷ parts) = (front ++ part) ∷ parts
-
--- a list before the first of two parts
-abbrev pub all_onto : List ℕ → Option (List ℕ × List ℕ) → Option (List ℕ × List ℕ)
-all_onto front None = None
-all_onto front (Some parts) = Some (front ++ parts.0, parts.1)
 
 some-first : (n : ℕ) (text : List ℕ) (parts : List (List ℕ)) → AreParts n text parts → false ≡ are_none parts
 some-first n text [] are = absurd are

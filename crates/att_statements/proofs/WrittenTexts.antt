@@ -1,8 +1,8 @@
 -- What the code reads of operands, against what operands' texts say.
-use Rattle.std.proofs.Common.{◌≡◌, ℕ, ◌-◌, ◌^◌, ◌≤◌, ◌⊎◌, inl, inr, min, Bool, true, false, ◌&&◌, ◌||◌, cond, eqb, ltb, leb, not, ℤ, List, [], ◌∷◌, ◌++◌, Option, Some, None, is_some, slice_get, codes, refl, sym, ap, ◌∙◌, subst, arith, append-nil}
+use Rattle.std.proofs.Common.{◌≡◌, ℕ, ◌^◌, ◌<◌, ◌⊎◌, inl, inr, min, Bool, true, false, ◌||◌, eqb, ltb, leb, not, ℤ, List, [], ◌∷◌, ◌++◌, Option, Some, None, is_some, codes, refl, sym, ap, ◌∙◌, subst, arith, append-nil}
 use Rattle.std.specs.List.{list_all}
 use Rattle.std.specs.Str.{bytes_eq}
-use Rattle.std.proofs.lemmas.Bool.{and_parts, and_from, or_cases, eqb-true, ne_eqb, leb-true, lt-leb, ltb-true, both_ways}
+use Rattle.std.proofs.lemmas.Bool.{and_parts, and_from, or_cases, eqb-true, ne_eqb, lt-leb, both_ways}
 use Rattle.std.proofs.lemmas.Option.{same_Some}
 use Rattle.std.proofs.lemmas.Slice.Eq.{bytes_eq-Decides}
 use Rattle.insn_table.specs.declared.insn.Operand.{Operand}
@@ -11,19 +11,28 @@ use Rattle.text_lines.specs.Words.{IsName, is_name, IsPadded, prefix_of, behind_
 use Rattle.text_lines.proofs.Prefixes.{prefix-whole}
 use Rattle.text_lines.proofs.Trimming.{trim-known, trim-only, prefix-only}
 use Rattle.text_lines.proofs.LineItems.{name-known, name-only, name-bytes}
-use Rattle.att_statements.specs.Operands.{Written, Immediate, Label, Plain, digit_value, IsAmount, IsNumber, IsDisplacement, register_names, IsMemoryText, IsSymbol, IsPoolText, IsNumeral, IsLabelText, IsOperandText, IsOperandPart, IsPoolPart}
-use Rattle.att_statements.specs.ReadingOperands.{after_byte, digits_of, decimal_of, number_of, register_named, memory_of, parenthesised, is_offset, is_symbol, is_relative, is_pool_part, label_of, dollar_by, bare_by, written_by, written_of}
-use Rattle.att_statements.proofs.NumberTexts.{chosen_then, map_some, never-some, after_byte-known, heads, are_digits, digits-known, digits-only, decimal-known, decimal-only, number-known, number-only}
-use Rattle.att_statements.proofs.RegisterTexts.{all-names, register-known, register-only}
-use Rattle.att_statements.proofs.PartTexts.{lacks, tails, parenthesised-known, parenthesised-only, parenthesised-none}
+use Rattle.std.specs.Char.{digit_value}
+use Rattle.std.proofs.lemmas.Str.Parse.{digit_from_value}
+use Rattle.register_names.specs.Names.{IsRegisterName}
+use Rattle.register_names.proofs.NameTexts.{all-names}
+use Rattle.text_parts.specs.Cuts.{after_byte}
+use Rattle.text_parts.specs.Numbers.{IsAmount, capped, decimal_of, digits_of}
+use Rattle.text_parts.proofs.CutTexts.{lacks}
+use Rattle.text_parts.proofs.NumberTexts.{decimal-known, decimal-only, digits-known, digits-only, first_digit, tests-only}
+use Rattle.text_parts.proofs.Options.{after_byte-known, chosen_then, map_some, never-some}
+use Rattle.att_statements.specs.Operands.{Written, Immediate, Label, Plain, IsNumber, IsDisplacement, IsMemoryText, IsSymbol, IsPoolText, IsLooseNumber, IsLabelText, IsOperandText, IsOperandPart, IsPoolPart}
+use Rattle.att_statements.specs.ReadingOperands.{number_of, operand_named, memory_of, parenthesised, is_offset, is_symbol, is_relative, is_pool_part, label_of, dollar_by, bare_by, written_by, written_of}
+use Rattle.att_statements.proofs.NumberTexts.{heads, signed_number-known, signed_number-only}
+use Rattle.att_statements.proofs.RegisterTexts.{operand-known, operand-only}
+use Rattle.att_statements.proofs.PartTexts.{tails, parenthesised-known, parenthesised-only, parenthesised-none}
 use Rattle.att_statements.proofs.MemoryTexts.{memory-known, memory-only}
 
 -- symbols
 
 -- what has a value is read
-some-known : {A : Type 0} (o : Option A) → is_some o ≡ true → (x : A) × (o ≡ Some x)
+some-known : (o : Option ℕ) → is_some (capped o) ≡ true → (n : ℕ) × (o ≡ Some n)
 some-known None h = cc
-some-known (Some x) h = (x, refl)
+some-known (Some n) h = (n, refl)
 
 sign-known : (b : ℕ) → (eqb b 43 || eqb b 45) ≡ true → (b ≡ 43) ⊎ (b ≡ 45)
 sign-known b h = elim (or_cases (eqb b 43) (eqb b 45) h) [ inl e ↦ inl (eqb-true b 43 e) | inr e ↦ inr (eqb-true b 45 e) ]
@@ -39,10 +48,9 @@ no_name-byte b (inr e) = rw e refl
 symbol-parts : (text name behind : List ℕ) → text ≡ name ++ behind → is_name name ≡ true → is_offset behind ≡ true → IsSymbol text
 symbol-parts text name [] is named offset = inl (subst IsName (sym (is ∙ append-nil name)) (name-known name named))
 symbol-parts text name (sign ∷ digits) is named offset =
-    let p = and_parts (eqb sign 43 || eqb sign 45) (is_some (decimal_of digits)) offset in
+    let p = and_parts (eqb sign 43 || eqb sign 45) (is_some (capped (decimal_of digits))) offset in
     let m = some-known (decimal_of digits) p.1 in
-    let d = decimal-known digits m.0 m.1 in
-    inr (name, sign, digits, d.0, is, name-known name named, sign-known sign p.0, d.1)
+    inr (name, sign, digits, m.0, is, name-known name named, sign-known sign p.0, decimal-known digits m.0 m.1)
 
 symbol-known : (text : List ℕ) → is_symbol text ≡ true → IsSymbol text
 unfolding is_symbol
@@ -112,42 +120,42 @@ name-bare : (text : List ℕ) → IsName text → lacks 40 text ≡ true
 name-bare text named = lacks-from is_name_byte 40 text refl (name-bytes text named)
 
 amount-bare : (text : List ℕ) (n : ℕ) → IsAmount text n → lacks 40 text ≡ true
-amount-bare text n (inl d) = lacks-from (λ b. ltb (digit_value b) 10) 40 text refl d.digits.each
-amount-bare text n (inr d) = rw d.spelled (lacks-from (λ b. ltb (digit_value b) 16) 40 d.behind refl d.digits.each)
+amount-bare text n (inl d) = lacks-from (λ b. ltb (digit_value b) 10) 40 text refl (tests-only 10 text d.digits.1)
+amount-bare text n (inr d) = rw d.spelled (lacks-from (λ b. ltb (digit_value b) 16) 40 d.behind refl (tests-only 16 d.behind d.digits.1))
 
 number-bare : (text : List ℕ) (negative : Bool) (n : ℕ) → IsNumber text negative n → lacks 40 text ≡ true
 number-bare text false n a = amount-bare text n a
 number-bare text true n (amount, is, a) = rw is (amount-bare amount n a)
 
-register-bare : (w n : ℕ) (name : List ℕ) → slice_get (register_names w) n ≡ Some name → lacks 40 name ≡ true
+register-bare : (w n : ℕ) (name : List ℕ) → IsRegisterName name w n → lacks 40 name ≡ true
 register-bare w n name there = all-names (lacks 40) w n name (record { all64 = refl; all32 = refl; all16 = refl; all8 = refl; all128 = refl; all256 = refl }) there
 
 -- labels
 
 -- a name that isn't read as an immediate is a label
-label-known : (text : List ℕ) (w : Written) → label_of text ≡ Some w → ((number : List ℕ) → text ≡ codes "$" ++ number → IsNumeral number → ⊥) → IsOperandText text w
+label-known : (text : List ℕ) (w : Written) → label_of text ≡ Some w → ((number : List ℕ) → text ≡ codes "$" ++ number → IsLooseNumber number → ⊥) → IsOperandText text w
 label-known text w h other =
     let p = chosen_then (is_name text) (Some (Label text)) w h in
     subst (IsOperandText text) (same_Some (Label text) w p.1) (refl, record { named = name-known text p.0; other = other })
 
 -- an amount above 2^64 is read as that
-abbrev pub capped : Written → Written
-capped (Immediate negative n) = Immediate negative (min n (2 ^ 64))
-capped (Label name) = Label name
-capped (Plain operand) = Plain operand
+abbrev pub capped_written : Written → Written
+capped_written (Immediate negative n) = Immediate negative (min n (2 ^ 64))
+capped_written (Label name) = Label name
+capped_written (Plain operand) = Plain operand
 
--- what is read of a text, up to what is capped
+-- what is read of a text, up to what is capped_written
 abbrev pub IsRead : List ℕ → Written → Type 0
-IsRead text v = (w : Written) × IsOperandText text w × (v ≡ capped w)
+IsRead text v = (w : Written) × IsOperandText text w × (v ≡ capped_written w)
 
 -- a label is read as it stands
-label-read : (text : List ℕ) (v : Written) → label_of text ≡ Some v → (w : Written) × (label_of text ≡ Some w) × (v ≡ capped w)
+label-read : (text : List ℕ) (v : Written) → label_of text ≡ Some v → (w : Written) × (label_of text ≡ Some w) × (v ≡ capped_written w)
 label-read text v h = let p = chosen_then (is_name text) (Some (Label text)) v h in (Label text, rw p.0 refl, sym (same_Some (Label text) v p.1))
 
 -- what is read neither as a number nor as digits is no numeral
-no_numeral : (number : List ℕ) → number_of number ≡ None → is_some (digits_of 10 number) ≡ false → IsNumeral number → ⊥
-no_numeral number none leads (inl d) = let some = digits-only 10 number (omega arith) d in let e = rw some at leads in cc
-no_numeral number none leads (inr (n, d)) = let some = number-only number false n (inr d) in cc
+no_numeral : (number : List ℕ) → number_of number ≡ None → is_some (capped (digits_of 10 number)) ≡ false → IsLooseNumber number → ⊥
+no_numeral number none leads (inl d) = let some = digits-only 10 number d in let e = rw some at leads in cc
+no_numeral number none leads (inr (n, d)) = let some = signed_number-only number false n (inr d) in cc
 
 no_dollar : (text number : List ℕ) → after_byte 36 text ≡ None → text ≡ 36 ∷ number → ⊥
 unfolding after_byte
@@ -159,37 +167,37 @@ no_percent text name is named = let e = rw is at named in let start = e.0 in cc
 no_minus-in : (text amount : List ℕ) → text ≡ 36 ∷ 45 ∷ amount → IsName text → ⊥
 no_minus-in text amount is named = let e = rw is at named in let next = e.1 in cc
 
-unsigned-numeral : (number text : List ℕ) (negative : Bool) (n : ℕ) → IsNumber number negative n → text ≡ 36 ∷ number → IsName text → IsNumeral number
+unsigned-numeral : (number text : List ℕ) (negative : Bool) (n : ℕ) → IsNumber number negative n → text ≡ 36 ∷ number → IsName text → IsLooseNumber number
 unsigned-numeral number text false n (inl d) spelled named = inl d.digits
 unsigned-numeral number text false n (inr d) spelled named = inr (n, d)
 unsigned-numeral number text true n (amount, is, a) spelled named = absurd (no_minus-in text amount (spelled ∙ ap (λ (xs : List ℕ). 36 ∷ xs) is) named)
 
 -- a number behind `$` in a name has no sign
-numeral-from : (number text : List ℕ) (found : Bool × ℕ) → number_of number ≡ Some found → text ≡ 36 ∷ number → IsName text → IsNumeral number
-numeral-from number text found h spelled named = let p = number-known number found h in unsigned-numeral number text found.0 p.0 p.1 spelled named
+numeral-from : (number text : List ℕ) (found : Bool × ℕ) → number_of number ≡ Some found → text ≡ 36 ∷ number → IsName text → IsLooseNumber number
+numeral-from number text found h spelled named = let p = signed_number-known number found h in unsigned-numeral number text found.0 p.0 p.1 spelled named
 
 dollar-known : (number text : List ℕ) (found : Option (Bool × ℕ)) (leading : Bool) (v : Written) → text ≡ 36 ∷ number → number_of number ≡ found
-    → is_some (digits_of 10 number) ≡ leading → dollar_by found leading text ≡ Some v → IsRead text v
+    → is_some (capped (digits_of 10 number)) ≡ leading → dollar_by found leading text ≡ Some v → IsRead text v
 dollar-known number text (Some found) leading v spelled is leads h =
-    let read = number-known number found is in (
+    let read = signed_number-known number found is in (
       Immediate found.0 read.0,
       (number, spelled, read.1),
       sym (same_Some (Immediate found.0 found.1) v h) ∙ ap (λ (m : ℕ). Immediate found.0 m) read.2,
     )
 dollar-known number text None true v spelled is leads h = cc
 dollar-known number text None false v spelled is leads h =
-    let other = λ (again : List ℕ) (same : text ≡ 36 ∷ again) (numeral : IsNumeral again).
-    no_numeral number is leads (subst IsNumeral (sym (tails 36 36 number again (sym spelled ∙ same))) numeral) in
+    let other = λ (again : List ℕ) (same : text ≡ 36 ∷ again) (numeral : IsLooseNumber again).
+    no_numeral number is leads (subst IsLooseNumber (sym (tails 36 36 number again (sym spelled ∙ same))) numeral) in
     let p = label-read text v h in
     (p.0, label-known text p.0 p.1 other, p.2)
 
 bare-known : (text : List ℕ) (number name : Option (List ℕ)) (v : Written) → after_byte 36 text ≡ number → after_byte 37 text ≡ name
     → bare_by number name text ≡ Some v → IsRead text v
 bare-known text (Some number) name v dollar percent h =
-    dollar-known number text (number_of number) (is_some (digits_of 10 number)) v (after_byte-known 36 text number dollar) refl refl h
+    dollar-known number text (number_of number) (is_some (capped (digits_of 10 number))) v (after_byte-known 36 text number dollar) refl refl h
 bare-known text None (Some name) v dollar percent h =
-    let p = map_some (register_named name) (λ o. Plain o) v h in
-    let r = register-known name p.0 p.1 in
+    let p = map_some (operand_named name) (λ o. Plain o) v h in
+    let r = operand-known name p.0 p.1 in
     (Plain p.0, inl (r.0, r.1, record { name = name; known = r.2; spelled = after_byte-known 37 text name percent }, r.3), sym p.2)
 bare-known text None None v dollar percent h =
     let p = label-read text v h in
@@ -210,7 +218,7 @@ label-only : (text : List ℕ) (number : Option (List ℕ)) → IsLabelText text
 label-only text (Some number) l dollar =
     let spelled = after_byte-known 36 text number dollar in
     let no_number = never-some (number_of number) (λ found h. l.other number spelled (numeral-from number text found h spelled l.named)) in
-    let no_digits = never-some (digits_of 10 number) (λ m h. l.other number spelled (inl (digits-known 10 number m (omega arith) h).0)) in
+    let no_digits = never-some (digits_of 10 number) (λ m h. l.other number spelled (inl (digits-known 10 number m h).0)) in
     let named = name-only text l.named in
     rw (no_number, no_digits, named) refl
 label-only text None l dollar =
@@ -219,18 +227,18 @@ label-only text None l dollar =
     rw (none, named) refl
 
 -- what a text says is read
-pub written-only : (text : List ℕ) (w : Written) → IsOperandText text w → written_of text ≡ Some (capped w)
+pub written-only : (text : List ℕ) (w : Written) → IsOperandText text w → written_of text ≡ Some (capped_written w)
 unfolding written_of after_byte
 written-only text (Immediate negative n) (number, is, a) =
     let none = parenthesised-none (36 ∷ number) (number-bare number negative n a) in
-    let some = number-only number negative n a in
+    let some = signed_number-only number negative n a in
     rw (is, none, some) refl
 written-only text (Label name) (is, l) =
     let none = parenthesised-none name (name-bare name l.named) in
     rw (is, none) (label-only name (after_byte 36 name) l refl)
 written-only text (Plain o) (inl (n, w, r, is)) =
     let none = parenthesised-none (37 ∷ r.name) (register-bare w n r.name r.known) in
-    let some = register-only w r.name n r.known in
+    let some = operand-only w r.name n r.known in
     rw (r.spelled, none, some, is) refl
 written-only text (Plain o) (inr m) =
     let cut = parenthesised-only text m.before m.inside m.spelled in
@@ -239,19 +247,9 @@ written-only text (Plain o) (inr m) =
 
 -- symbols are no operands
 
--- a decimal digit
-digit-range : (b : ℕ) (a c d : Bool) → (leb 48 b && leb b 57) ≡ a → (leb 97 b && leb b 102) ≡ c → (leb 65 b && leb b 70) ≡ d
-    → ltb (cond a (b - 48) (cond c (b - 87) (cond d (b - 55) 16))) 10 ≡ true → (48 ≤ b) × (b ≤ 57)
-digit-range b true c d ha hc hd low = let p = and_parts (leb 48 b) (leb b 57) ha in (leb-true 48 b p.0, leb-true b 57 p.1)
-digit-range b false true d ha hc hd low =
-    let p = and_parts (leb 97 b) (leb b 102) hc in absurd (omega (arith, leb-true 97 b p.0, ltb-true (b - 87) 10 low))
-digit-range b false false true ha hc hd low =
-    let p = and_parts (leb 65 b) (leb b 70) hd in absurd (omega (arith, leb-true 65 b p.0, ltb-true (b - 55) 10 low))
-digit-range b false false false ha hc hd low = cc
-
-digit-no_start : (b : ℕ) → ltb (digit_value b) 10 ≡ true → is_name_start b ≡ true → ⊥
+digit-no_start : (b : ℕ) → digit_value b < 10 → is_name_start b ≡ true → ⊥
 digit-no_start b low start =
-    let range = digit-range b (leb 48 b && leb b 57) (leb 97 b && leb b 102) (leb 65 b && leb b 70) refl refl refl low in
+    let range = digit_from_value b low in
     let upper : leb 65 b ≡ false = lt-leb 65 b (omega (arith, range.1)) in
     let lower : leb 97 b ≡ false = lt-leb 97 b (omega (arith, range.1)) in
     let line : eqb b 95 ≡ false = ne_eqb b 95 (λ e. omega (arith, range.1)) in
@@ -270,11 +268,8 @@ symbol-start text (inr (name, sign, digits, n, is, named, signed, d)) =
     let p = name-start name named in
     (p.0, p.1 ++ sign ∷ digits, is ∙ ap (λ (xs : List ℕ). xs ++ sign ∷ digits) p.2, p.3)
 
-digits-first : (b : ℕ) (bs text : List ℕ) → text ≡ b ∷ bs → are_digits 10 text ≡ true → ltb (digit_value b) 10 ≡ true
-digits-first b bs text is h = let e = rw is at h in (and_parts (ltb (digit_value b) 10) (are_digits 10 bs) e).0
-
 amount-no_start : (b : ℕ) (bs text : List ℕ) (n : ℕ) → text ≡ b ∷ bs → is_name_start b ≡ true → IsAmount text n → ⊥
-amount-no_start b bs text n is start (inl d) = digit-no_start b (digits-first b bs text is d.digits.each) start
+amount-no_start b bs text n is start (inl d) = digit-no_start b (first_digit 10 b bs text is d.digits.1) start
 amount-no_start b bs text n is start (inr d) =
     let zero : b ≡ 48 = heads b 48 bs (120 ∷ d.behind) (sym is ∙ d.spelled) in let e = rw zero at start in cc
 

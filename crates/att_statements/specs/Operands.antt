@@ -1,47 +1,15 @@
 -- Numbers and operands of GNU AT&T text, by what stands where in their texts.
-use Rattle.std.specs.Prelude.{◌≡◌, ◌≢◌, ◌⊎◌, ℕ, ◌+◌, ◌-◌, ◌*◌, ◌^◌, ◌<◌, ◌≤◌, ℤ, pos, neg_ℤ, Bool, true, false, ◌&&◌, ◌||◌, ◌==◌, not, nat_lt, nat_le, if◌then◌else◌, List, [], ◌∷◌, ◌++◌, length, Option, Some, None, slice_get, codes}
+use Rattle.std.specs.Prelude.{◌≡◌, ◌≢◌, ◌⊎◌, ℕ, ◌+◌, ◌-◌, ◌^◌, ◌<◌, ◌≤◌, ℤ, pos, neg_ℤ, Bool, true, false, ◌||◌, ◌==◌, not, if◌then◌else◌, List, [], ◌∷◌, ◌++◌, Option, Some, None, codes}
 use Rattle.std.specs.List.{list_all}
 use Rattle.insn_table.specs.declared.insn.Operand.{Operand}
 use Rattle.insn_table.specs.declared.insn.Operand.TheVariants.{Reg, Vec, Mem}
 use Rattle.insn_table.specs.Table.{IsScale}
+use Rattle.std.specs.Str.Parse.{IsNumeral}
+use Rattle.register_names.specs.Names.{IsRegisterName}
 use Rattle.text_lines.specs.Words.{IsName, IsPadded}
+use Rattle.text_parts.specs.Numbers.{IsAmount, IsDecimal, IsHexadecimal}
 
 -- numbers
-
--- the value of a digit, decimal or hexadecimal, and 16 for any other byte
-abbrev pub digit_value : ℕ → ℕ
-digit_value b =
-    if nat_le 48 b && nat_le b 57 then b - 48
-    else if nat_le 97 b && nat_le b 102 then b - 87
-    else if nat_le 65 b && nat_le b 70 then b - 55
-    else 16
-
--- digits of this radix, at least one
-pub record AreDigits (radix : ℕ) (text : List ℕ) : Type 0 where
-  pub some : 0 < length text
-  pub each : list_all (λ b. nat_lt (digit_value b) radix) text ≡ true
-
--- the number that digits make behind those that made n
-abbrev pub value_from : ℕ → ℕ → List ℕ → ℕ
-value_from radix n [] = n
-value_from radix n (b ∷ bs) = value_from radix (radix * n + digit_value b) bs
-
--- a decimal number: its first digit is 0 only where it is the only one
-pub record IsDecimal (text : List ℕ) (n : ℕ) : Type 0 where
-  pub digits : AreDigits 10 text
-  pub leading : slice_get text 0 ≡ Some 48 → length text ≡ 1
-  pub value : n ≡ value_from 10 0 text
-
--- `0x` and hexadecimal digits of either case
-pub record IsHexadecimal (text : List ℕ) (n : ℕ) : Type 0 where
-  pub behind : List ℕ
-  pub spelled : text ≡ codes "0x" ++ behind
-  pub digits : AreDigits 16 behind
-  pub value : n ≡ value_from 16 0 behind
-
--- a number without its sign
-abbrev pub IsAmount : List ℕ → ℕ → Type 0
-IsAmount text n = IsDecimal text n ⊎ IsHexadecimal text n
 
 -- a number of this sign: `-` stands before a negative one
 abbrev pub IsNumber : List ℕ → Bool → ℕ → Type 0
@@ -50,35 +18,6 @@ IsNumber text true n = (amount : List ℕ) × (text ≡ codes "-" ++ amount) × 
 
 -- registers
 
--- the registers of w bits, by number: general ones of up to 64 bits, vectors of 128 and 256
-abbrev pub register_names : ℕ → List (List ℕ)
-register_names w =
-    if w == 64 then
-    codes "rax" ∷ codes "rcx" ∷ codes "rdx" ∷ codes "rbx" ∷ codes "rsp" ∷ codes "rbp" ∷ codes "rsi" ∷ codes "rdi"
-    ∷ codes "r8" ∷ codes "r9" ∷ codes "r10" ∷ codes "r11"
-    ∷ codes "r12" ∷ codes "r13" ∷ codes "r14" ∷ codes "r15" ∷ []
-    else if w == 32 then
-    codes "eax" ∷ codes "ecx" ∷ codes "edx" ∷ codes "ebx" ∷ codes "esp" ∷ codes "ebp" ∷ codes "esi" ∷ codes "edi"
-    ∷ codes "r8d" ∷ codes "r9d" ∷ codes "r10d" ∷ codes "r11d"
-    ∷ codes "r12d" ∷ codes "r13d" ∷ codes "r14d" ∷ codes "r15d" ∷ []
-    else if w == 16 then
-    codes "ax" ∷ codes "cx" ∷ codes "dx" ∷ codes "bx" ∷ codes "sp" ∷ codes "bp" ∷ codes "si" ∷ codes "di"
-    ∷ codes "r8w" ∷ codes "r9w" ∷ codes "r10w" ∷ codes "r11w"
-    ∷ codes "r12w" ∷ codes "r13w" ∷ codes "r14w" ∷ codes "r15w" ∷ []
-    else if w == 8 then
-    codes "al" ∷ codes "cl" ∷ codes "dl" ∷ codes "bl" ∷ codes "spl" ∷ codes "bpl" ∷ codes "sil" ∷ codes "dil"
-    ∷ codes "r8b" ∷ codes "r9b" ∷ codes "r10b" ∷ codes "r11b"
-    ∷ codes "r12b" ∷ codes "r13b" ∷ codes "r14b" ∷ codes "r15b" ∷ []
-    else if w == 128 then
-    codes "xmm0" ∷ codes "xmm1" ∷ codes "xmm2" ∷ codes "xmm3" ∷ codes "xmm4" ∷ codes "xmm5" ∷ codes "xmm6" ∷ codes "xmm7"
-    ∷ codes "xmm8" ∷ codes "xmm9" ∷ codes "xmm10" ∷ codes "xmm11" ∷ codes "xmm12" ∷ codes "xmm13"
-    ∷ codes "xmm14" ∷ codes "xmm15" ∷ []
-    else if w == 256 then
-    codes "ymm0" ∷ codes "ymm1" ∷ codes "ymm2" ∷ codes "ymm3" ∷ codes "ymm4" ∷ codes "ymm5" ∷ codes "ymm6" ∷ codes "ymm7"
-    ∷ codes "ymm8" ∷ codes "ymm9" ∷ codes "ymm10" ∷ codes "ymm11" ∷ codes "ymm12" ∷ codes "ymm13"
-    ∷ codes "ymm14" ∷ codes "ymm15" ∷ []
-    else []
-
 -- register n of w bits as an operand
 abbrev pub register_operand : ℕ → ℕ → Operand
 register_operand w n = if w == 128 || w == 256 then Vec n w else Reg n w
@@ -86,7 +25,7 @@ register_operand w n = if w == 128 || w == 256 then Vec n w else Reg n w
 -- `%` and the name of register n of w bits
 pub record IsRegisterText (text : List ℕ) (n w : ℕ) : Type 0 where
   pub name : List ℕ
-  pub known : slice_get (register_names w) n ≡ Some name
+  pub known : IsRegisterName name w n
   pub spelled : text ≡ codes "%" ++ name
 
 -- commas
@@ -193,13 +132,13 @@ pub record IsPoolText (text : List ℕ) : Type 0 where
   pub relative : IsPadded inside (codes "%rip")
 
 -- a number, or what would be one but for its leading zeros
-abbrev pub IsNumeral : List ℕ → Type 0
-IsNumeral text = AreDigits 10 text ⊎ ((n : ℕ) × IsHexadecimal text n)
+abbrev pub IsLooseNumber : List ℕ → Type 0
+IsLooseNumber text = IsNumeral 10 text ⊎ ((n : ℕ) × IsHexadecimal text n)
 
 -- a label's name; `$` and a number are an immediate, though the bytes are those of a name
 pub record IsLabelText (text : List ℕ) : Type 0 where
   pub named : IsName text
-  pub other : (number : List ℕ) → text ≡ codes "$" ++ number → IsNumeral number → ⊥
+  pub other : (number : List ℕ) → text ≡ codes "$" ++ number → IsLooseNumber number → ⊥
 
 -- operands
 

@@ -1,51 +1,21 @@
 -- What each function of the code reads of operands, as functions on lists.
-use Rattle.std.specs.Prelude.{ℕ, ◌+◌, ◌-◌, ◌*◌, ◌^◌, min, ℤ, pos, Bool, true, false, ◌&&◌, ◌||◌, ◌==◌, nat_lt, nat_le, if◌then◌else◌, List, [], ◌∷◌, length, take, Option, Some, None, is_some, option_and_then, slice_index, codes, bytes_eq}
-use Rattle.std.specs.Option.{option_map, option_or}
+use Rattle.std.specs.Prelude.{ℕ, ◌-◌, ◌^◌, ℤ, pos, Bool, true, false, ◌&&◌, ◌||◌, ◌==◌, nat_lt, nat_le, if◌then◌else◌, List, [], ◌∷◌, length, take, Option, Some, None, is_some, slice_index, codes, bytes_eq}
+use Rattle.std.specs.Option.{option_map}
 use Rattle.insn_table.specs.declared.insn.Operand.{Operand}
 use Rattle.insn_table.specs.declared.insn.Operand.TheVariants.{Mem}
 use Rattle.text_lines.specs.Bytes.{is_name_byte}
 use Rattle.text_lines.specs.Words.{is_name, prefix_of, behind_prefix, trim}
-use Rattle.text_lines.specs.Cutting.{cut_at}
-use Rattle.att_statements.specs.Operands.{Written, Immediate, Label, Plain, digit_value, register_names, register_operand, open_behind, integer}
-
-infixl 10 ◌>>=◌
--- what follows, where there is a value
-abbrev pub ◌>>=◌ : {A B : Type 0} → Option A → (A → Option B) → Option B
-o >>= f = option_and_then f o
-
--- what stands behind this first byte
-unfoldable pub after_byte : ℕ → List ℕ → Option (List ℕ)
-after_byte byte [] = None
-after_byte byte (b ∷ rest) = if b == byte then Some rest else None
+use Rattle.text_parts.specs.Cuts.{◌>>=◌, after_byte, cut_at}
+use Rattle.text_parts.specs.Numbers.{amount_of, capped, decimal_of, digits_of}
+use Rattle.register_names.specs.Reading.{register_named, register_number}
+use Rattle.att_statements.specs.Operands.{Written, Immediate, Label, Plain, register_operand, open_behind, integer}
 
 -- numbers
 
--- the number that digits make behind those that made n, no number above 2^64 being kept
-unfoldable pub digits_from : ℕ → ℕ → List ℕ → Option ℕ
-digits_from radix n [] = Some n
-digits_from radix n (b ∷ bs) =
-    if nat_lt (digit_value b) radix then digits_from radix (min (radix * n + digit_value b) (2 ^ 64)) bs else None
-
--- the number of digits of this radix, at least one
-unfoldable pub digits_of : ℕ → List ℕ → Option ℕ
-digits_of radix text = if length text == 0 then None else digits_from radix 0 text
-
--- a decimal number
-unfoldable pub decimal_of : List ℕ → Option ℕ
-decimal_of text = if nat_lt 1 (length text) && (slice_index text 0 == 48) then None else digits_of 10 text
-
--- `0x` and a hexadecimal number
-unfoldable pub hexadecimal_of : List ℕ → Option ℕ
-hexadecimal_of text = after_byte 48 text >>= λ behind. (after_byte 120 behind >>= digits_of 16)
-
--- a number without its sign
-unfoldable pub amount_of : List ℕ → Option ℕ
-amount_of text = option_or (hexadecimal_of text) (decimal_of text)
-
 -- whether a number is negative, and its amount
 abbrev pub signed_by : Option (List ℕ) → List ℕ → Option (Bool × ℕ)
-signed_by (Some amount) text = option_map (λ (n : ℕ). (true, n)) (amount_of amount)
-signed_by None text = option_map (λ (n : ℕ). (false, n)) (amount_of text)
+signed_by (Some amount) text = option_map (λ (n : ℕ). (true, n)) (capped (amount_of amount))
+signed_by None text = option_map (λ (n : ℕ). (false, n)) (capped (amount_of text))
 
 -- whether a number has a minus sign, and its amount
 unfoldable pub number_of : List ℕ → Option (Bool × ℕ)
@@ -53,25 +23,9 @@ number_of text = signed_by (after_byte 45 text) text
 
 -- registers
 
--- the place of a name in a table, counted from n
-abbrev pub place_from : ℕ → List (List ℕ) → List ℕ → Option ℕ
-place_from n [] name = None
-place_from n (x ∷ xs) name = if bytes_eq x name then Some n else place_from (n + 1) xs name
-
--- the number of the register of w bits with this name
-unfoldable pub register_number : ℕ → List ℕ → Option ℕ
-register_number w name = place_from 0 (register_names w) name
-
--- the register of w bits with this name
-abbrev pub register_by : ℕ → List ℕ → Option Operand
-register_by w name = option_map (register_operand w) (register_number w name)
-
--- the register with this name
-unfoldable pub register_named : List ℕ → Option Operand
-register_named name =
-    option_or (register_by 64 name)
-    (option_or (register_by 32 name) (option_or (register_by 16 name) (option_or (register_by 8 name)
-    (option_or (register_by 128 name) (register_by 256 name)))))
+-- the register with this name, as an operand
+unfoldable pub operand_named : List ℕ → Option Operand
+operand_named name = option_map (λ r. register_operand r.0 r.1) (register_named name)
 
 -- commas
 
@@ -169,7 +123,7 @@ memory_of before inside = do
 -- what may follow the name of a symbol: nothing, or a sign and a decimal number
 abbrev pub is_offset : List ℕ → Bool
 is_offset [] = true
-is_offset (sign ∷ digits) = ((sign == 43) || (sign == 45)) && is_some (decimal_of digits)
+is_offset (sign ∷ digits) = ((sign == 43) || (sign == 45)) && is_some (capped (decimal_of digits))
 
 -- a name, and behind it nothing or an offset
 unfoldable pub is_symbol : List ℕ → Bool
@@ -197,8 +151,8 @@ dollar_by None leading text = if leading then None else label_of text
 
 -- an operand without parentheses: what stands behind `$`, behind `%`, and the text
 abbrev pub bare_by : Option (List ℕ) → Option (List ℕ) → List ℕ → Option Written
-bare_by (Some number) name text = dollar_by (number_of number) (is_some (digits_of 10 number)) text
-bare_by None (Some name) text = option_map (λ o. Plain o) (register_named name)
+bare_by (Some number) name text = dollar_by (number_of number) (is_some (capped (digits_of 10 number))) text
+bare_by None (Some name) text = option_map (λ o. Plain o) (operand_named name)
 bare_by None None text = label_of text
 
 -- the operand with what stands before and inside its parentheses, or without any

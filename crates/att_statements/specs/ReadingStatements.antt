@@ -17,7 +17,8 @@ use Rattle.text_lines.specs.declared.refusal.ReadKind.{ReadKind}
 use Rattle.text_lines.specs.declared.refusal.ReadKind.TheVariants.{UnknownInstruction, PoolRefused, BadOperand, BadNumber, UnknownLabel}
 use Rattle.att_statements.specs.Operands.{Written, Immediate, Label, Plain}
 use Rattle.att_statements.specs.Statements.{word_of, greatest_written}
-use Rattle.att_statements.specs.ReadingOperands.{◌>>=◌, are_none, parts_from, written_of, is_pool_part}
+use Rattle.text_parts.specs.Cuts.{◌>>=◌}
+use Rattle.att_statements.specs.ReadingOperands.{are_none, parts_from, written_of, is_pool_part}
 use Rattle.att_statements.specs.declared.part.Part.{Part}
 use Rattle.att_statements.specs.declared.part.Operands.{Operands}
 

@@ -1,9 +1,10 @@
 //! Texts cut at commas outside parentheses, and at parentheses.
 ghost use Rattle.std.specs.Prelude.{◌≡◌, ◌≤◌, ◌<◌, ◌^◌, ◌∷◌};
 ghost use Rattle.std.specs.Option.{option_map};
-ghost use Rattle.text_lines.specs.Cutting.{cut_at};
 ghost use Rattle.att_statements.specs.Operands.{open_behind};
 ghost use Rattle.att_statements.specs.ReadingOperands.{are_none, parts_from, parts_left, before_byte, parenthesised};
+
+use text_parts::cut_at;
 
 /// How many parentheses are open behind this byte, where `open` are before it.
 fn open_behind(open_before: usize, byte: u8) -> usize
@@ -41,19 +42,6 @@ pub(crate) fn are_none(rest: Option<&[u8]>) -> bool
         None => true,
         Some(_) => false,
     }
-}
-
-/// The parts before and behind the first such byte.
-#[tactic(auto, unfolding(text_lines::specs::Cutting::cut_at))]
-fn cut_at(text: &[u8], byte: u8) -> Option<(&[u8], &[u8])>
-    ensures { option_map (λ parts. (parts.0.now, parts.1.now)) result ≡ cut_at byte text.now }
-{
-    for (place, found) in text.iter().enumerate() {
-        if *found == byte {
-            return Some((&text[..place], &text[place + 1..]));
-        }
-    }
-    None
 }
 
 /// What stands before this last byte.

@@ -5,10 +5,11 @@ ghost use Rattle.text_lines.specs.Words.{prefix_of, behind_prefix};
 ghost use Rattle.att_statements.specs.ReadingOperands.{small_integer, displacement_in, address_register, base_of, index_of, scale_of, address_in, parts_from, memory_of, is_offset, is_symbol, is_pool_part};
 
 use crate::cuts::{are_none, cut_part, parenthesised};
-use crate::numbers::{after_byte, decimal_of, number_of};
-use crate::registers::wide_register;
+use crate::numbers::number_of;
 use insn_table::Operand;
+use register_names::register_number;
 use text_lines::{is_name, is_name_byte, trim};
+use text_parts::{after_byte, capped_decimal};
 
 /// The number of rsp, which is no index (Intel SDM volume 2, 2.1.5).
 const STACK_POINTER: u8 = 4;
@@ -49,7 +50,7 @@ fn address_register(part: &[u8]) -> Option<u8>
     ensures { result ≡ address_register part.now }
 {
     let name = after_byte(trim(part), b'%')?;
-    wide_register(name)
+    register_number(64, name)
 }
 
 /// A base, which may be left out.
@@ -154,7 +155,7 @@ fn is_offset(text: &[u8]) -> bool
 {
     match text {
         [] => true,
-        [b'+' | b'-', digits @ ..] => decimal_of(digits).is_some(),
+        [b'+' | b'-', digits @ ..] => capped_decimal(digits).is_some(),
         _ => false,
     }
 }

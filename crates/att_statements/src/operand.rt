@@ -4,15 +4,18 @@ ghost use Rattle.std.specs.Option.{option_map};
 ghost use Rattle.att_statements.specs.Statements.{word_of, greatest_written};
 ghost use Rattle.insn_ops.specs.declared.op.Op.{Op};
 ghost use Rattle.att_statements.specs.ReadingStatements.{is_beyond, no_part, immediate_part, part_of, part_in, gathered};
-ghost use Rattle.att_statements.specs.ReadingOperands.{after_byte, digits_of, number_of, label_of, dollar_by, bare_by, written_of};
+ghost use Rattle.text_parts.specs.Cuts.{after_byte};
+ghost use Rattle.text_parts.specs.Numbers.{capped, digits_of};
+ghost use Rattle.att_statements.specs.ReadingOperands.{number_of, label_of, dollar_by, bare_by, written_of};
 
 use crate::cuts::parenthesised;
 use crate::memory::memory_of;
-use crate::numbers::{after_byte, digits_of, number_of};
+use crate::numbers::number_of;
 use crate::part::{Operands, Part};
-use crate::registers::register_named;
+use crate::registers::operand_named;
 use insn_table::{Op, Operand};
 use text_lines::{Labels, is_name, trim};
+use text_parts::{after_byte, capped_digits};
 
 /// An operand with nothing wrong in it.
 fn plain(operand: Operand) -> Part
@@ -99,12 +102,12 @@ fn label_part<L: Labels>(text: &[u8], labels: &L) -> Option<Part>
 /// An immediate, or a label whose name begins with `$`. A decimal number with leading zeros is neither.
 fn dollar_part<L: Labels>(number: &[u8], text: &[u8], op: Op, labels: &L) -> Option<Part>
     ensures { result ≡ option_map (part_of (L.target labels.now) op)
-        (dollar_by (number_of number.now) (is_some (digits_of 10 number.now)) text.now) }
+        (dollar_by (number_of number.now) (is_some (capped (digits_of 10 number.now))) text.now) }
 {
     if let Some((negative, amount)) = number_of(number) {
         return Some(number_part(op, negative, amount));
     }
-    if digits_of(10, number).is_some() {
+    if capped_digits(10, number).is_some() {
         return None;
     }
     label_part(text, labels)
@@ -119,7 +122,7 @@ fn bare_part<L: Labels>(text: &[u8], op: Op, labels: &L) -> Option<Part>
         return dollar_part(number, text, op, labels);
     }
     if let Some(name) = after_byte(text, b'%') {
-        let operand = register_named(name)?;
+        let operand = operand_named(name)?;
         return Some(plain(operand));
     }
     label_part(text, labels)

@@ -1,22 +1,24 @@
 -- Printed operands are read back.
-use Rattle.std.proofs.Common.{◌≡◌, ◌≢◌, ◌⊎◌, inl, inr, ℕ, zero, suc, ◌+◌, ◌-◌, ◌/◌, ◌%◌, ◌^◌, ◌<◌, ◌≤◌, ◌==◌, eqb, Bool, true, false, ◌&&◌, ◌||◌, if◌then◌else◌, not, nat_lt, ℤ, pos, negsuc, List, [], ◌∷◌, ◌++◌, length, Option, Some, None, slice_get, unwrap_or, codes, decimal, cond, refl, sym, ◌∙◌, ap, subst, append_assoc, arith}
-use Rattle.std.specs.Fmt.{signed_decimal}
+use Rattle.std.proofs.Common.{◌≡◌, ◌≢◌, inl, inr, ℕ, zero, suc, ◌+◌, ◌-◌, ◌/◌, ◌%◌, ◌^◌, ◌<◌, ◌≤◌, ◌==◌, eqb, Bool, true, false, ◌&&◌, ◌||◌, if◌then◌else◌, not, nat_lt, ℤ, pos, negsuc, List, [], ◌∷◌, ◌++◌, Option, Some, None, slice_get, unwrap_or, codes, decimal, cond, refl, sym, ap, subst, append_assoc, arith}
 use Rattle.std.specs.List.{list_all}
 use Rattle.std.proofs.lemmas.Bool.Decides.{Decides-eqb, nat_tests}
 use Rattle.std.proofs.lemmas.Fmt.{decimal_digit}
 use Rattle.std.proofs.lemmas.List.{append-nil}
 use Rattle.insn_spellings.proofs.Bools.{both_true}
 use Rattle.insn_table.specs.declared.insn.Operand.{Operand}
-use Rattle.insn_table.specs.declared.insn.Operand.TheVariants.{Reg, Imm, Mem, Vec, Pool, Target, Nothing}
+use Rattle.insn_table.specs.declared.insn.Operand.TheVariants.{Reg, Mem, Vec}
 use Rattle.insn_table.specs.Table.{IsScale}
 use Rattle.text_lines.specs.Bytes.{is_blank}
 use Rattle.text_lines.specs.Words.{IsPadded, IsTrimmed}
-use Rattle.att_statements.proofs.RegisterTexts.{all-names}
+use Rattle.register_names.proofs.NameTexts.{all-names}
+use Rattle.register_names.specs.Names.{register_names}
+use Rattle.std.specs.Char.{digit_value}
+use Rattle.text_parts.proofs.NumberTexts.{tests-only}
+use Rattle.text_parts.proofs.Printed.{decimal-is}
 use Rattle.att_statements.specs.Statements.{word_of}
-use Rattle.att_statements.specs.Operands.{AreAddressParts, AreParts, digit_value, Immediate, IsAddressRegister, IsBase, IsBetween, IsDisplacement, IsIndex, IsMemoryText, IsOperandText, IsParenthesised, IsRegisterText, IsScaleText, IsUncut, Plain, integer, open_after, open_behind, register_names}
-use Rattle.insn_text.specs.InsnText.{displacement_text, memory_text, number_text, numbers_of, operand_text, register_text, scaled_text}
+use Rattle.att_statements.specs.Operands.{AreAddressParts, AreParts, Immediate, IsAddressRegister, IsBase, IsBetween, IsDisplacement, IsIndex, IsMemoryText, IsOperandText, IsRegisterText, IsScaleText, IsUncut, Plain, integer, open_after, open_behind}
+use Rattle.insn_text.specs.InsnText.{displacement_text, memory_text, number_text, operand_text, register_text, scaled_text}
 use Rattle.insn_text.specs.ReadBack.{NumberReadBack}
-use Rattle.insn_text.proofs.Decimals.{Spells, decimal-spells, printed-decimal}
 
 -- plain texts: no blanks, commas and parentheses
 
@@ -149,8 +151,8 @@ displacement-read : (disp : ℤ) → IsBounded disp → IsDisplacement (displace
 displacement-read (pos zero) h = inl (refl, refl)
 displacement-read (pos (suc n)) h =
     subst (λ (t : List ℕ). IsDisplacement t (pos (suc n))) (sym (displacement-positive n))
-    (inr (false, suc n, inl (printed-decimal (suc n) (omega arith)), h, refl))
-displacement-read (negsuc n) h = inr (true, suc n, (decimal (suc n), refl, inl (printed-decimal (suc n) (omega arith))), h, refl)
+    (inr (false, suc n, inl (decimal-is (suc n) (omega arith)), h, refl))
+displacement-read (negsuc n) h = inr (true, suc n, (decimal (suc n), refl, inl (decimal-is (suc n) (omega arith))), h, refl)
 
 other_byte : (b : ℕ) (x : Bool) → ((x ≡ true) → b ≡ 40) → nat_lt (digit_value b) 10 ≡ true → not x ≡ true
 other_byte b true is h =
@@ -167,8 +169,8 @@ unparenthesised : (disp : ℤ) → IsBounded disp → list_all (λ b. not (b == 
 unparenthesised (pos zero) h = refl
 unparenthesised (pos (suc n)) h =
     subst (λ (t : List ℕ). list_all (λ b. not (b == 40)) t ≡ true) (sym (displacement-positive n))
-    (digits-unparenthesised (decimal (suc n)) (decimal-spells (suc n) (omega arith)).each)
-unparenthesised (negsuc n) h = digits-unparenthesised (decimal (suc n)) (decimal-spells (suc n) (omega arith)).each
+    (digits-unparenthesised (decimal (suc n)) (tests-only 10 (decimal (suc n)) (decimal-is (suc n) (omega arith)).digits.1))
+unparenthesised (negsuc n) h = digits-unparenthesised (decimal (suc n)) (tests-only 10 (decimal (suc n)) (decimal-is (suc n) (omega arith)).digits.1)
 
 -- memory
 
@@ -302,9 +304,9 @@ number-by : (m v : ℕ) (x : Bool) → nat_lt (v % m) (m / 2) ≡ x → v % m < 
     → (v % m < m / 2 → word_of false (v % m) % m ≡ v % m) → (m / 2 ≤ v % m → word_of true (m - v % m) % m ≡ v % m) → ReadAs m v
 unfolding number_text
 number-by m v true is low high here there =
-    (false, v % m, rw is (decimal (v % m), refl, inl (printed-decimal (v % m) low)), here (grind (arith, nat_tests)))
+    (false, v % m, rw is (decimal (v % m), refl, inl (decimal-is (v % m) low)), here (grind (arith, nat_tests)))
 number-by m v false is low high here there =
-    (true, m - v % m, rw is (codes "-" ++ decimal (m - v % m), refl, (decimal (m - v % m), refl, inl (printed-decimal (m - v % m) (high (grind (arith, nat_tests)))))), there (grind (arith, nat_tests)))
+    (true, m - v % m, rw is (codes "-" ++ decimal (m - v % m), refl, (decimal (m - v % m), refl, inl (decimal-is (m - v % m) (high (grind (arith, nat_tests)))))), there (grind (arith, nat_tests)))
 
 word-below : (n : ℕ) → n < 2 ^ 64 → word_of false n ≡ n
 word-below n lt = grind (arith, nat_tests)

@@ -4,7 +4,7 @@ use Rattle.std.specs.Fmt.{signed_decimal}
 use Rattle.insn_table.specs.declared.insn.Insn.{Insn}
 use Rattle.insn_table.specs.declared.insn.Operand.{Operand}
 use Rattle.insn_table.specs.declared.insn.Operand.TheVariants.{Reg, Imm, Mem, Vec, Pool, Target, Nothing}
-use Rattle.att_statements.specs.Operands.{register_names}
+use Rattle.register_names.specs.Names.{register_names}
 use Rattle.insn_mnemonics.specs.Mnemonics.{mnemonic}
 
 -- `%` and the name of register n of w bits

@@ -1,7 +1,7 @@
 //! The table of names.
-ghost use Rattle.std.specs.Prelude.{◌≡◌, ◌≤◌, length, map, slice_get};
+ghost use Rattle.std.specs.Prelude.{◌≡◌, ◌<◌, ◌≤◌, length, map, slice_get};
 ghost use Rattle.std.specs.Option.{option_map};
-ghost use Rattle.register_names.specs.Names.{register_names};
+ghost use Rattle.register_names.specs.Names.{IsNamedWidth, IsRegisterName, register_names};
 
 /// The names of the registers of `w` bits, by number; none at any other width than the six.
 pub(crate) fn names_at(w: u32) -> &'static [&'static str]
@@ -42,4 +42,13 @@ pub fn register_name(w: u32, n: u8) -> Option<&'static str>
     ensures { option_map (λ name. name.now) result ≡ slice_get (register_names w) n }
 {
     names_at(w).get(n as usize).copied()
+}
+
+/// The name of a register that has one: register `n` of `w` bits.
+pub fn name_of(w: u32, n: u8) -> &'static str
+    requires width { IsNamedWidth w }
+    requires number { n < 16 }
+    ensures { IsRegisterName result.now w n }
+{
+    names_at(w)[n as usize]
 }

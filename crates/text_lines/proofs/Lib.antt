@@ -1,4 +1,3 @@
-pub mod Searching
 pub mod Prefixes
 pub mod Trimming
 pub mod LineItems

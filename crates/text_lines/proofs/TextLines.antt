@@ -1,34 +1,12 @@
 -- The lines of a text, taken off one by one.
-use Rattle.std.proofs.Common.{◌≡◌, ℕ, ◌+◌, ◌<◌, ◌≤◌, Bool, true, false, cond, eqb, List, [], ◌∷◌, ◌++◌, length, Option, Some, None, refl, ap, ◌∙◌, arith}
+use Rattle.std.proofs.Common.{◌≡◌, ℕ, ◌+◌, ◌<◌, ◌≤◌, Bool, true, false, cond, eqb, List, [], ◌∷◌, length, Option, Some, None, refl, ap, ◌∙◌, arith}
 use Rattle.std.specs.List.{slice_split, onto_first}
 use Rattle.std.specs.Str.Lines.{lines, lines_of_parts, strip_carriage_return}
-use Rattle.std.proofs.lemmas.Bool.{eqb-true, ne_eqb}
-use Rattle.std.proofs.lemmas.List.Splits.{slice_split-cons_yes, slice_split-cons_no, length-slice_split}
-use Rattle.text_lines.specs.Cutting.{cut_at, onto_front, line_of, first_line}
-
--- what a cut at this byte is
-abbrev pub IsCut : ℕ → List ℕ → Option (List ℕ × List ℕ) → Type 0
-IsCut byte text None = slice_split (λ b. eqb b byte) text ≡ text ∷ []
-IsCut byte text (Some parts) =
-    (slice_split (λ b. eqb b byte) text ≡ parts.0 ∷ slice_split (λ b. eqb b byte) parts.1)
-    × (length parts.1 < length text)
-    × (text ≡ parts.0 ++ byte ∷ parts.1)
-
-cut-here : (byte b : ℕ) (bs : List ℕ) → eqb b byte ≡ true → IsCut byte (b ∷ bs) (Some ([], bs))
-cut-here byte b bs same =
-    (slice_split-cons_yes (λ x. eqb x byte) b bs same, omega arith, ap (λ (x : ℕ). x ∷ bs) (eqb-true b byte same))
-
-cut-later : (byte b : ℕ) (bs : List ℕ) (r : Option (List ℕ × List ℕ)) → eqb b byte ≡ false → IsCut byte bs r → IsCut byte (b ∷ bs) (onto_front b r)
-cut-later byte b bs None other h = slice_split-cons_no (λ x. eqb x byte) b bs other ∙ ap (onto_first b) h
-cut-later byte b bs (Some parts) other h =
-    (slice_split-cons_no (λ x. eqb x byte) b bs other ∙ ap (onto_first b) h.0, omega (arith, h.1), ap (λ (x : List ℕ). b ∷ x) h.2)
-
-pub cut-outcome : (byte : ℕ) (text : List ℕ) → IsCut byte text (cut_at byte text)
-unfolding cut_at
-cut-outcome byte [] = refl
-cut-outcome byte (b ∷ bs) =
-    elim (eqb b byte) as (λ (t : Bool). eqb b byte ≡ t → IsCut byte (b ∷ bs) (cond t (Some ([], bs)) (onto_front b (cut_at byte bs))))
-    [ true ↦ λ e. cut-here byte b bs e | false ↦ λ e. cut-later byte b bs (cut_at byte bs) e (cut-outcome byte bs) ] refl
+use Rattle.std.proofs.lemmas.Bool.{ne_eqb}
+use Rattle.std.proofs.lemmas.List.Splits.{length-slice_split}
+use Rattle.text_parts.specs.Cuts.{cut_at}
+use Rattle.text_parts.proofs.WordTexts.{IsCut, cut-outcome}
+use Rattle.text_lines.specs.Cutting.{line_of, first_line}
 
 -- what the first line and the rest are
 abbrev pub IsFirst : List ℕ → Option (List ℕ × List ℕ) → Type 0

@@ -1,20 +1,11 @@
 -- How texts are cut, as functions on lists.
 use Rattle.std.specs.Prelude.{ℕ, suc, zero, ◌+◌, ◌==◌, if◌then◌else◌, List, [], ◌∷◌, ◌++◌, length, Option, Some, None}
 use Rattle.std.specs.Str.Lines.{lines, strip_carriage_return}
+use Rattle.text_parts.specs.Cuts.{cut_at}
 use Rattle.text_lines.specs.Bytes.{is_blank, is_name_byte}
 use Rattle.text_lines.specs.Words.{is_name, prefix_of, behind_prefix, trim}
 use Rattle.text_lines.specs.Lines.{Item, Label, Statement, is_visible}
 use Rattle.text_lines.specs.Texts.{is_long}
-
--- a byte before the first of two parts
-abbrev pub onto_front : ℕ → Option (List ℕ × List ℕ) → Option (List ℕ × List ℕ)
-onto_front b None = None
-onto_front b (Some parts) = Some (b ∷ parts.0, parts.1)
-
--- the parts before and behind the first such byte
-unfoldable pub cut_at : ℕ → List ℕ → Option (List ℕ × List ℕ)
-cut_at byte [] = None
-cut_at byte (b ∷ bs) = if b == byte then Some ([], bs) else onto_front b (cut_at byte bs)
 
 -- the first line and what follows it, where a newline cuts the text here
 abbrev pub line_of : List ℕ → Option (List ℕ × List ℕ) → Option (List ℕ × List ℕ)

@@ -96,9 +96,13 @@ tests-known radix (b ∷ bs) h =
     let p = and_parts (ltb (digit_value b) radix) (all_pass radix bs) h in
     (ltb-true (digit_value b) radix p.0, tests-known radix bs p.1)
 
-tests-only : (radix : ℕ) (bs : List ℕ) → AllDigits radix bs → all_pass radix bs ≡ true
+pub tests-only : (radix : ℕ) (bs : List ℕ) → AllDigits radix bs → all_pass radix bs ≡ true
 tests-only radix [] h = refl
 tests-only radix (b ∷ bs) h = and_from (ltb (digit_value b) radix) (all_pass radix bs) (lt-ltb (digit_value b) radix h.0) (tests-only radix bs h.1)
+
+-- the first of some digits is one
+pub first_digit : (radix b : ℕ) (bs text : List ℕ) → text ≡ b ∷ bs → AllDigits radix text → digit_value b < radix
+first_digit radix b bs text is h = let P : List ℕ → Type 0 = λ ds. AllDigits radix ds in let all : AllDigits radix (b ∷ bs) = subst P is h in all.0
 
 pub digits-known : (radix : ℕ) (text : List ℕ) (n : ℕ) → digits_of radix text ≡ Some n → IsNumeral radix text × (n ≡ digits_value radix text)
 unfolding digits_of
