@@ -24,6 +24,6 @@ mod vectors;
 
 pub use difference::{Difference, difference_law};
 pub use laws::{path_law, run_law, state_law, step_frame_law, way_law};
-pub use memory_spans::{Span, memory_law};
+pub use memory_spans::{Region, Span, memory_law};
 pub use runs::{RunEnd, StepEnd};
 pub use state::State;

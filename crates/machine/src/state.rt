@@ -41,14 +41,6 @@ use scalar_ops::{flags, scalar};
 use std::alloc::Global;
 use std::marker::Model;
 
-/// A region of memory: `len` bytes from `base` on, which may be read, and written where `write` is.
-#[derive(Clone, Copy, Debug, PartialEq, Eq)]
-pub struct Region {
-    pub base: u64,
-    pub len: u64,
-    pub write: bool,
-}
-
 /// The state of the machine. Contracts see it as what is kept of one, and `pure_of` says what that
 /// means.
 #[derive(Drop)]
