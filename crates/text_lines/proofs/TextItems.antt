@@ -22,6 +22,10 @@ pub items-known : (text : List ℕ) → AreItems text (items_of_text text)
 unfolding items_of_text
 items-known text = lines-known 1 (lines text)
 
+-- so does a text of which these items were read
+pub items-held : (text : List ℕ) (items : List Item) → items ≡ items_of_text text → AreItems text items
+items-held text items is = subst (AreItems text) (sym is) (items-known text)
+
 -- and no other ones
 pub items-only : (text : List ℕ) (items : List Item) → AreItems text items → items ≡ items_of_text text
 unfolding items_of_text

@@ -6,6 +6,7 @@ ghost use Rattle.text_lines.specs.Words.{prefix_of, behind_prefix};
 ghost use Rattle.text_lines.specs.Bytes.{is_name_byte};
 ghost use Rattle.text_lines.specs.Cutting.{label_at, colon_behind, items_left, items_of_text, visible_part};
 ghost use Rattle.text_lines.specs.Kinds.{out_of_memory};
+ghost use Rattle.text_lines.specs.Texts.{AreItems};
 ghost use Rattle.text_lines.specs.Views.{seen};
 
 use crate::cuts::{first_line, visible_part};
@@ -81,6 +82,9 @@ fn push_line<'t>(
 pub fn items_in(alloc: Global, text: &[u8]) -> Result<(Vec<Item<'_>>, usize), ReadRefusal>
     ensures items { IfOk result (λ found. map seen found.0.items ≡ items_of_text text.now) }
     ensures lines { IfOk result (λ found. found.1 ≡ length (lines text.now)) }
+
+    // Which items these are, line by line.
+    ensures held { IfOk result (λ found. AreItems text.now (map seen found.0.items)) }
     ensures memory { IfErr result (λ e. e ≡ out_of_memory) }
 {
     let mut items = Vec::new(alloc);

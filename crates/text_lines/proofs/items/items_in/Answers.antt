@@ -2,6 +2,7 @@ use Rattle.std.proofs.Common.{ℕ, ◌+◌, ◌++◌, ◌∙◌, sym, ap, map, L
 use Rattle.text_lines.specs.Cutting.{items_left}
 use Rattle.text_lines.specs.Views.{seen}
 use Rattle.text_lines.proofs.CodeSteps.{items-begin, items-next, items-end, line-less, line-counts, line-none}
+use Rattle.text_lines.proofs.TextItems.{items-held}
 use Rattle.text_lines.proofs.items.items_in.Goals as goal
 
 pub loop-here-init : goal.loop-here-init
@@ -24,6 +25,11 @@ loop-here-preserved c =
 pub returns-clause-items : goal.returns-clause-items
 returns-clause-items c =
     sym (items-end (map seen c.loop-here.items.items) (c.loop-here.line + 1) c.loop-here.rest.now (sym c.in_default.ensures)) ∙ c.loop-here.invariant.0
+
+pub returns-clause-held : goal.returns-clause-held
+returns-clause-held c =
+    items-held c.args.text.now (map seen c.loop-here.items.items)
+    (sym (items-end (map seen c.loop-here.items.items) (c.loop-here.line + 1) c.loop-here.rest.now (sym c.in_default.ensures)) ∙ c.loop-here.invariant.0)
 
 pub returns-clause-lines : goal.returns-clause-lines
 returns-clause-lines c = omega (arith, c.loop-here.invariant.1, line-none c.loop-here.rest.now (sym c.in_default.ensures))
