@@ -13,7 +13,7 @@ use Rattle.admission_text.specs.declared.refusal.AdmitRefusal.{AdmitRefusal}
 use Rattle.admission_text.specs.declared.refusal.AdmitRefusal.TheVariants.{BadLine, TooMany, NoLive, Memory}
 use Rattle.admission_text.specs.Grammar.{IsEntry, Line, is_skipped, lines_from, lines_of, parts}
 use Rattle.admission_text.specs.Entries.{AreEntries, IsAdmissionText, goes_over, with_entries}
-use Rattle.admission_text.specs.Refusals.{Dead, Faulty, IsLineFault, IsRefused, fault_line, given, line_number, rank}
+use Rattle.admission_text.specs.Refusals.{Dead, Faulty, IsLineFault, IsAdmissionRefusal, fault_line, given, line_number, rank}
 use Rattle.admission_text.specs.Reading.{entry_of}
 use Rattle.admission_text.specs.ReadingLines.{admission_of, behind_line, behind_lines, drafted_with, finished, is_over, judged, next_line, no_draft}
 use Rattle.admission_text.proofs.EntryTexts.{Tells, entry-known, entry-only}
@@ -233,7 +233,7 @@ outcome text = read-outcome (parts 10 text) 1 [] no_draft tells-none
 -- what was answered is right
 abbrev pub IsRight : List ℕ → Result Admission AdmitRefusal → Type 0
 IsRight text (Ok a) = IsAdmissionText text a × IsWellFormed a
-IsRight text (Err e) = IsRefused text e
+IsRight text (Err e) = IsAdmissionRefusal text e
 
 finish : (text : List ℕ) (es : List Entry) (lived : Bool) → AreEntries [] (lines_of text) es → ((e : AdmitRefusal) → HasFault IsLineFault [] (lines_of text) e → ⊥)
     → (drafted_all no_draft es).lived ≡ lived → IsRight text (cond lived (Ok (drafted_all no_draft es).admission) (Err NoLive))
@@ -273,7 +273,7 @@ fault-same front ls a b x y lines ranks = by_cases x.wrong y.wrong
     by_cases (inr p) (inr q) = p.0 ∙ ap (λ (n : ℕ). TooMany n) (sym (ap fault_line p.0) ∙ lines ∙ ap fault_line q.0) ∙ sym q.0
 
 -- a refusal of a text is what is answered
-refused-by : (text : List ℕ) (e : AdmitRefusal) (r : Result (List Entry) AdmitRefusal) → IsOutcome IsLineFault LineOrder IsRead [] (lines_of text) r → IsRefused text e
+refused-by : (text : List ℕ) (e : AdmitRefusal) (r : Result (List Entry) AdmitRefusal) → IsOutcome IsLineFault LineOrder IsRead [] (lines_of text) r → IsAdmissionRefusal text e
     → (told no_draft r >>= finished) ≡ Err e
 refused-by text e (Ok es) out (Faulty first is means) = absurd (out.1 first is.has)
 refused-by text e (Ok es) out (Dead sound dead means) =
@@ -285,7 +285,7 @@ refused-by text e (Err f) out (Faulty first is means) =
     ap (λ (x : AdmitRefusal). Err (given x)) same ∙ ap (λ (x : AdmitRefusal). Err x) (sym means)
 refused-by text e (Err f) out (Dead sound dead means) = absurd (sound f out.has)
 
-admission-refused : (text : List ℕ) (e : AdmitRefusal) → IsRefused text e → admission_of text ≡ Err e
+admission-refused : (text : List ℕ) (e : AdmitRefusal) → IsAdmissionRefusal text e → admission_of text ≡ Err e
 admission-refused text e refused = whole text ∙ refused-by text e (entries_of text) (outcome text) refused
 
 -- one meaning
@@ -295,15 +295,15 @@ pub text-once : (text : List ℕ) (a b : Admission) → IsAdmissionText text a �
 text-once text a b one two = let p = admission-only text a one in let q = admission-only text b two in cc
 
 -- is not refused then
-pub text-differs : (text : List ℕ) (a : Admission) (e : AdmitRefusal) → IsAdmissionText text a → IsRefused text e → ⊥
+pub text-differs : (text : List ℕ) (a : Admission) (e : AdmitRefusal) → IsAdmissionText text a → IsAdmissionRefusal text e → ⊥
 text-differs text a e is refused = let p = admission-only text a is in let q = admission-refused text e refused in cc
 
 -- is refused in at most one way
-pub refused-once : (text : List ℕ) (a b : AdmitRefusal) → IsRefused text a → IsRefused text b → a ≡ b
+pub refused-once : (text : List ℕ) (a b : AdmitRefusal) → IsAdmissionRefusal text a → IsAdmissionRefusal text b → a ≡ b
 refused-once text a b one two = let p = admission-refused text a one in let q = admission-refused text b two in cc
 
 -- and never because memory was not found
-pub refused-found : (text : List ℕ) (e : AdmitRefusal) → IsRefused text e → e ≡ Memory → ⊥
+pub refused-found : (text : List ℕ) (e : AdmitRefusal) → IsAdmissionRefusal text e → e ≡ Memory → ⊥
 refused-found text e (Faulty first is means) memory = by_fault is.has.wrong
   where
     by_fault : IsLineFault ([] ++ is.has.before) is.has.item first → ⊥
@@ -314,7 +314,7 @@ refused-found text e (Dead sound dead means) memory = cc
 -- the answer, where memory may be wanted
 
 -- what is answered is so
-pub reads-from : (text : List ℕ) (result : Result Admission AdmitRefusal) → Gives Memory result (admission_of text) → Answers Memory (IsAdmissionText text) (IsRefused text) result
+pub reads-from : (text : List ℕ) (result : Result Admission AdmitRefusal) → Gives Memory result (admission_of text) → Answers Memory (IsAdmissionText text) (IsAdmissionRefusal text) result
 reads-from text (Ok a) gives = (subst (IsRight text) gives (admission-right text)).0
 reads-from text (Err e) gives = unless-map (λ (is : admission_of text ≡ Err e). subst (IsRight text) is (admission-right text)) gives
 
@@ -322,7 +322,7 @@ reads-from text (Err e) gives = unless-map (λ (is : admission_of text ≡ Err e
 pub admission-gives : (text : List ℕ) (result : Result Admission AdmitRefusal) → Gives Memory result (admission_of text) → (a : Admission) → IsAdmissionText text a → Gives Memory result (Ok a)
 admission-gives text result gives a is = subst (Gives Memory result) (admission-only text a is) gives
 
-pub refused-gives : (text : List ℕ) (result : Result Admission AdmitRefusal) → Gives Memory result (admission_of text) → (e : AdmitRefusal) → IsRefused text e → Gives Memory result (Err e)
+pub refused-gives : (text : List ℕ) (result : Result Admission AdmitRefusal) → Gives Memory result (admission_of text) → (e : AdmitRefusal) → IsAdmissionRefusal text e → Gives Memory result (Err e)
 refused-gives text result gives e is = subst (Gives Memory result) (admission-refused text e is) gives
 
 -- what is read is well formed

@@ -39,8 +39,8 @@ given NoLive = NoLive
 given Memory = Memory
 
 -- the refusal of a text: its first fault, else that no line is `live`
-pub data IsRefused (text : List ℕ) (e : AdmitRefusal) : Type 0 where
-  Faulty : (first : AdmitRefusal) → IsFirst IsLineFault (Precedes fault_line rank) [] (lines_of text) first → e ≡ given first → IsRefused text e
+pub data IsAdmissionRefusal (text : List ℕ) (e : AdmitRefusal) : Type 0 where
+  Faulty : (first : AdmitRefusal) → IsFirst IsLineFault (Precedes fault_line rank) [] (lines_of text) first → e ≡ given first → IsAdmissionRefusal text e
   Dead : ((other : AdmitRefusal) → HasFault IsLineFault [] (lines_of text) other → ⊥)
       → has_line (codes "live") (lines_of text) ≡ false → e ≡ NoLive
-      → IsRefused text e
+      → IsAdmissionRefusal text e

@@ -2,7 +2,7 @@
 ghost use Rattle.std.specs.Prelude.{◌≡◌, ℕ, List};
 ghost use Rattle.admission.specs.declared.admission.Admission.{Admission};
 ghost use Rattle.admission_text.specs.Entries.{IsAdmissionText};
-ghost use Rattle.admission_text.specs.Refusals.{IsRefused};
+ghost use Rattle.admission_text.specs.Refusals.{IsAdmissionRefusal};
 ghost use Rattle.admission_text.specs.declared.refusal.AdmitRefusal.{AdmitRefusal};
 
 /// A law: a text spells at most one admission, is refused in at most one way, and not both. No text is
@@ -11,7 +11,9 @@ pub fn admissions_have_one_meaning()
     ensures admission { (text : List ℕ) (a b : Admission)
         → IsAdmissionText text a → IsAdmissionText text b → a ≡ b }
     ensures not_both { (text : List ℕ) (a : Admission) (e : AdmitRefusal)
-        → IsAdmissionText text a → IsRefused text e → ⊥ }
-    ensures refusal { (text : List ℕ) (a b : AdmitRefusal) → IsRefused text a → IsRefused text b → a ≡ b }
-    ensures not_memory { (text : List ℕ) (e : AdmitRefusal) → IsRefused text e → e ≡ AdmitRefusal.Memory → ⊥ }
+        → IsAdmissionText text a → IsAdmissionRefusal text e → ⊥ }
+    ensures refusal { (text : List ℕ) (a b : AdmitRefusal)
+        → IsAdmissionRefusal text a → IsAdmissionRefusal text b → a ≡ b }
+    ensures not_memory { (text : List ℕ) (e : AdmitRefusal)
+        → IsAdmissionRefusal text e → e ≡ AdmitRefusal.Memory → ⊥ }
 {}

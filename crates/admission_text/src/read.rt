@@ -3,7 +3,7 @@ ghost use Rattle.std.specs.Prelude.{◌≡◌, ◌≤◌, length, IfOk};
 ghost use Rattle.outcomes.specs.Answering.{Answers, Gives};
 ghost use Rattle.admission_text.specs.Grammar.{is_skipped, parts};
 ghost use Rattle.admission_text.specs.ReadingLines as lines;
-ghost use Rattle.admission_text.specs.Refusals.{IsRefused};
+ghost use Rattle.admission_text.specs.Refusals.{IsAdmissionRefusal};
 ghost use Rattle.admission_text.specs.Entries.{IsAdmissionText};
 ghost use Rattle.admission_text.specs.declared.refusal.AdmitRefusal.{AdmitRefusal};
 ghost use Rattle.admission.specs.declared.admission.Admission.{Admission};
@@ -91,11 +91,11 @@ fn admission_of(alloc: Global, text: &[u8]) -> Result<Admission, AdmitRefusal>
 /// wanted and not found, that is the refusal.
 pub fn read_admission(alloc: Global, text: &[u8]) -> Result<Admission, AdmitRefusal>
     // What is answered is so ..
-    ensures exact { Answers AdmitRefusal.Memory (IsAdmissionText text.now) (IsRefused text.now) result }
+    ensures exact { Answers AdmitRefusal.Memory (IsAdmissionText text.now) (IsAdmissionRefusal text.now) result }
 
     // .. and what is so is answered.
     ensures only { (a : Admission) → IsAdmissionText text.now a → Gives AdmitRefusal.Memory result (Ok a) }
-    ensures refused { (e : AdmitRefusal) → IsRefused text.now e → Gives AdmitRefusal.Memory result (Err e) }
+    ensures refused { (e : AdmitRefusal) → IsAdmissionRefusal text.now e → Gives AdmitRefusal.Memory result (Err e) }
 
     ensures formed { IfOk result IsWellFormed }
 {

@@ -1,7 +1,8 @@
 -- The files of a command, one after another: what each take says of the command.
-use Rattle.std.proofs.Common.{◌≡◌, inl, inr, ℕ, ◌+◌, ◌<◌, ◌≤◌, List, [], ◌∷◌, ◌++◌, append_assoc, length, Option, Result, Ok, Err, IfErr, IsErrAnd, refl, sym, ◌∙◌, ap, subst, arith}
+use Rattle.std.proofs.Common.{◌≡◌, ◌⊎◌, inl, inr, ℕ, ◌+◌, ◌<◌, ◌≤◌, List, [], ◌∷◌, ◌++◌, append_assoc, length, Option, Result, Ok, Err, IfErr, IsErrAnd, refl, sym, ◌∙◌, ap, subst, arith}
 use Rattle.std.specs.List.{AllByRecursion}
 use Rattle.std.proofs.lemmas.List.{length-append}
+use Rattle.outcomes.proofs.Answering.{unless-found}
 use Rattle.align_base.specs.Causes.{Rose, count_after}
 use Rattle.align_base.specs.Shelf.{CallFailed, Holding, Holds, HoldsMore, NoneFailed, ShelfAccount}
 use Rattle.align_base.specs.declared.shelf.Call.TheVariants.{Take}
@@ -14,6 +15,7 @@ use Rattle.insn_table.specs.declared.insn.Function.{Function}
 use Rattle.text_lines.specs.declared.refusal.ReadKind.{ReadKind}
 use Rattle.text_lines.specs.declared.refusal.ReadKind.TheVariants as kinds
 use Rattle.text_lines.specs.declared.refusal.ReadRefusal.{ReadRefusal}
+use Rattle.text_lines.specs.Kinds.{out_of_memory}
 use Rattle.admission.specs.WellFormed.{IsWellFormed}
 use Rattle.admission.specs.declared.admission.Admission.{Admission}
 use Rattle.admission_text.specs.Entries.{IsAdmissionText}
@@ -26,8 +28,7 @@ use Rattle.tests_text.specs.TestFiles.{IsTestsText}
 use Rattle.tests_text.specs.declared.refusal.TestRefusal.{TestRefusal}
 use Rattle.tests_text.specs.declared.refusal.TestRefusal.TheVariants as test
 use Rattle.tests_text.specs.declared.test.Tests.{Tests}
-use Rattle.att_reader.specs.Answers.{UnlessMemory}
-use Rattle.att_reader.specs.FunctionText.{IsFunctionText, IsRefused}
+use Rattle.att_reader.specs.FunctionText.{IsFunctionText, IsFunctionRefusal}
 use Rattle.att_reader.proofs.ClosedTexts.{function-few}
 use Rattle.align_cli.specs.Answers.{FailsAtFile, Refuses, TellsOf}
 use Rattle.command_line.specs.Command.{Command, DecidePlain, FunctionArguments, Run, RunArguments}
@@ -53,21 +54,21 @@ pub large-refused : (told : Option Holding) (seen : ℕ) (file : File) (report :
     → HoldsMore told file.name 16777216 × (16777216 < seen) × (report ≡ large_refusal (file_word file.content) 16777217) → RefusesFile told seen file report
 large-refused told seen file report h = inl (record { more = h.0; seen_more = h.1; report_is = h.2 })
 
-unless-memory : (kind : ReadKind) (line : ℕ) (P : Type 0) → UnlessMemory kind line P → (kind ≡ kinds.Memory → ⊥) → P
-unless-memory kinds.Memory line P h other = absurd (other refl)
-unless-memory _ line P h other = h
+-- another kind is another error
+other-kind : (e : ReadRefusal) → (e.kind ≡ kinds.Memory → ⊥) → e ≡ out_of_memory → ⊥
+other-kind e other is = other (ap (λ (x : ReadRefusal). x.kind) is)
 
 -- a text that was refused refuses the file
 pub read-refused : (told : Option Holding) (seen : ℕ) (side : Side) (arguments : FunctionArguments) (text slice report : List ℕ) (e : ReadRefusal)
-    → Holds told arguments.file text → length text ≤ 16777216 → slice ≡ text → UnlessMemory e.kind e.line (IsRefused slice arguments.name e)
+    → Holds told arguments.file text → length text ≤ 16777216 → slice ≡ text → (e ≡ out_of_memory) ⊎ IsFunctionRefusal slice arguments.name e
     → (e.kind ≡ kinds.Memory → ⊥) → report ≡ line_refusal (side_name side) e.line e.kind → RefusesFile told seen (function_file side arguments) report
 read-refused told seen side arguments text slice report e held small is refused other told_is =
-    let P : List ℕ → Type 0 = λ t. IsRefused t arguments.name e in
+    let P : List ℕ → Type 0 = λ t. IsFunctionRefusal t arguments.name e in
     inr (record {
       text = text;
       held = held;
       small = small;
-      refused = (e, subst P is (unless-memory e.kind e.line (IsRefused slice arguments.name e) refused other), told_is);
+      refused = (e, subst P is (unless-found refused (other-kind e other)), told_is);
     })
 
 -- a text that was read is held as its function
@@ -238,18 +239,12 @@ module _ (command : Command) (before middle after : ShelfAccount) (read : List F
 
 -- ---- admissions and tests
 
-admission-unless : (text : List ℕ) (e : AdmitRefusal) → admissions.Reads text (Err e) → (e ≡ admits.Memory → ⊥) → admissions.IsRefused text e
-admission-unless text (admits.BadLine n) h other = h
-admission-unless text (admits.TooMany n) h other = h
-admission-unless text admits.NoLive h other = h
-admission-unless text admits.Memory h other = absurd (other refl)
-
 -- an admission that was refused refuses the file
 pub admission-refuses : (told : Option Holding) (seen : ℕ) (name text slice report : List ℕ) (e : AdmitRefusal) → Holds told name text → length text ≤ 16777216
-    → slice ≡ text → admissions.Reads slice (Err e) → (e ≡ admits.Memory → ⊥) → report ≡ admission_refusal e → RefusesFile told seen (admission_file name) report
+    → slice ≡ text → (e ≡ admits.Memory) ⊎ admissions.IsAdmissionRefusal slice e → (e ≡ admits.Memory → ⊥) → report ≡ admission_refusal e → RefusesFile told seen (admission_file name) report
 admission-refuses told seen name text slice report e held small is refused other told_is =
-    let P : List ℕ → Type 0 = λ t. admissions.IsRefused t e in
-    inr (record { text = text; held = held; small = small; refused = (e, subst P is (admission-unless slice e refused other), told_is) })
+    let P : List ℕ → Type 0 = λ t. admissions.IsAdmissionRefusal t e in
+    inr (record { text = text; held = held; small = small; refused = (e, subst P is (unless-found refused other), told_is) })
 
 -- an admission that was read is held
 pub admission-reads : (told : Option Holding) (name text slice : List ℕ) (a : Admission) → Holds told name text → length text ≤ 16777216 → slice ≡ text
@@ -257,19 +252,12 @@ pub admission-reads : (told : Option Holding) (name text slice : List ℕ) (a : 
 admission-reads told name text slice a held small is read formed =
     let P : List ℕ → Type 0 = λ t. IsAdmissionText t a in (record { text = text; held = held; small = small; reads = subst P is read }, formed)
 
-tests-unless : (text : List ℕ) (e : TestRefusal) → tests.Reads text (Err e) → (e ≡ test.Memory → ⊥) → tests.IsRefused text e
-tests-unless text test.NotJson h other = h
-tests-unless text (test.BadShape k) h other = h
-tests-unless text test.TooMany h other = h
-tests-unless text (test.TooManyBytes k) h other = h
-tests-unless text test.Memory h other = absurd (other refl)
-
 -- tests that were refused refuse the file
 pub tests-refuse : (told : Option Holding) (seen : ℕ) (name text slice report : List ℕ) (e : TestRefusal) → Holds told name text → length text ≤ 16777216
-    → slice ≡ text → tests.Reads slice (Err e) → (e ≡ test.Memory → ⊥) → report ≡ tests_refusal e → RefusesFile told seen (tests_file name) report
+    → slice ≡ text → (e ≡ test.Memory) ⊎ tests.IsTestsRefusal slice e → (e ≡ test.Memory → ⊥) → report ≡ tests_refusal e → RefusesFile told seen (tests_file name) report
 tests-refuse told seen name text slice report e held small is refused other told_is =
-    let P : List ℕ → Type 0 = λ t. tests.IsRefused t e in
-    inr (record { text = text; held = held; small = small; refused = (e, subst P is (tests-unless slice e refused other), told_is) })
+    let P : List ℕ → Type 0 = λ t. tests.IsTestsRefusal t e in
+    inr (record { text = text; held = held; small = small; refused = (e, subst P is (unless-found refused other), told_is) })
 
 -- tests that were read are held
 pub tests-read : (told : Option Holding) (name text slice : List ℕ) (ts : Tests) → Holds told name text → length text ≤ 16777216 → slice ≡ text

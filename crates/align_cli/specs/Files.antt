@@ -14,7 +14,7 @@ use Rattle.tests_text.specs.TestFiles.{IsTestsText}
 use Rattle.tests_text.specs.declared.refusal.TestRefusal.{TestRefusal}
 use Rattle.tests_text.specs.declared.test.Tests.{Tests}
 use Rattle.text_lines.specs.declared.refusal.ReadRefusal.{ReadRefusal}
-use Rattle.att_reader.specs.FunctionText.{IsFunctionText, IsRefused}
+use Rattle.att_reader.specs.FunctionText.{IsFunctionText, IsFunctionRefusal}
 use Rattle.command_line.specs.Command.{Command, DecidePlain, FunctionArguments, Run, Show}
 use Rattle.align_report.specs.PlainReport.{side_name}
 use Rattle.align_report.specs.Refusals.{admission_refusal, large_refusal, line_refusal, tests_refusal}
@@ -60,9 +60,9 @@ IsText TestsText text = (tests : Tests) × IsTestsText text tests
 
 -- the text isn't what it has to be, and this report refuses it
 abbrev pub RefusesText : Content → List ℕ → List ℕ → Type 0
-RefusesText (FunctionText side name) text report = (e : ReadRefusal) × IsRefused text name e × (report ≡ line_refusal (side_name side) e.line e.kind)
-RefusesText AdmissionText text report = (e : AdmitRefusal) × admissions.IsRefused text e × (report ≡ admission_refusal e)
-RefusesText TestsText text report = (e : TestRefusal) × tests.IsRefused text e × (report ≡ tests_refusal e)
+RefusesText (FunctionText side name) text report = (e : ReadRefusal) × IsFunctionRefusal text name e × (report ≡ line_refusal (side_name side) e.line e.kind)
+RefusesText AdmissionText text report = (e : AdmitRefusal) × admissions.IsAdmissionRefusal text e × (report ≡ admission_refusal e)
+RefusesText TestsText text report = (e : TestRefusal) × tests.IsTestsRefusal text e × (report ≡ tests_refusal e)
 
 -- what reports call a file
 abbrev pub file_word : Content → List ℕ

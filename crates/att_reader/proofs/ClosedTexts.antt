@@ -22,7 +22,7 @@ use Rattle.att_bodies.proofs.Counts.{count-cons, count-append, count-push, any-c
 use Rattle.att_statements.specs.Statements.{IsInsnText, IsBadStatement}
 use Rattle.insn_table.specs.declared.insn.Function.{Function}
 use Rattle.text_lines.specs.declared.refusal.ReadRefusal.{ReadRefusal}
-use Rattle.att_reader.specs.FunctionText.{IsFunctionText, IsRefused}
+use Rattle.att_reader.specs.FunctionText.{IsFunctionText, IsFunctionRefusal}
 use Rattle.att_reader.proofs.ClosedInsns.{insn-closed}
 
 few_code : (IsBad : List ℕ → ReadKind → Type 0) (before : List Item) (x : List ℕ) (k : ℕ) (is : List Item) → is_directive x ≡ false
@@ -96,7 +96,7 @@ function-closed name items insns f =
     }
 
 -- whatever is read is closed
-pub reads-closed : (text name : List ℕ) (r : Result Function ReadRefusal) → Answers out_of_memory (IsFunctionText text name) (IsRefused text name) r → IfOk r (λ f. IsClosed f.insns)
+pub reads-closed : (text name : List ℕ) (r : Result Function ReadRefusal) → Answers out_of_memory (IsFunctionText text name) (IsFunctionRefusal text name) r → IfOk r (λ f. IsClosed f.insns)
 reads-closed text name (Ok f) h = function-closed name h.items f.insns h.function
 reads-closed text name (Err e) h = tt
 

@@ -18,7 +18,7 @@ use Rattle.att_bodies.specs.Functions as body
 use Rattle.att_bodies.proofs.BodyLaws as laws
 use Rattle.att_statements.specs.Statements.{IsInsnText, IsBadStatement}
 use Rattle.att_statements.proofs.StatementTexts.{statements-read}
-use Rattle.att_reader.specs.FunctionText.{IsLegible, IsFunctionText, IsRefused, NoText, Long, Faulty}
+use Rattle.att_reader.specs.FunctionText.{IsLegible, IsFunctionText, IsFunctionRefusal, NoText, Long, Faulty}
 use Rattle.att_reader.specs.Reading.{told, insns_of_text}
 use Rattle.att_reader.proofs.LoopSteps.{told-err, told-ok}
 
@@ -48,7 +48,7 @@ text-function text name f legible read named none =
     }
 
 -- a refusal that was told is the text's
-pub text-refused : (text name : List ℕ) (e : ReadRefusal) → IsLegible text → told (insns_of_text text name) ≡ Err e → IsRefused text name e
+pub text-refused : (text name : List ℕ) (e : ReadRefusal) → IsLegible text → told (insns_of_text text name) ≡ Err e → IsFunctionRefusal text name e
 text-refused text name e legible stops =
     let f = told-err (insns_of_text text name) e stops in
     Faulty legible (items_of_text text) (items-known text) f.0 (subst (IsRightText text name) f.1 (text-right text name)) f.2
@@ -72,7 +72,7 @@ text-once text name f g one two =
     same_function f g (one.named ∙ sym two.named) (laws.function-once statements-read name two.items f.insns g.insns moved two.function) (one.no_pool ∙ sym two.no_pool)
 
 -- and is not refused then
-pub text-differs : (text name : List ℕ) (f : Function) (e : ReadRefusal) → IsFunctionText text name f → IsRefused text name e → ⊥
+pub text-differs : (text name : List ℕ) (f : Function) (e : ReadRefusal) → IsFunctionText text name f → IsFunctionRefusal text name e → ⊥
 text-differs text name f e one (NoText k bad is) = utf8-differs text k one.legible.utf8 bad
 text-differs text name f e one (Long utf8 k long is) = short-differs text k one.legible.short long
 text-differs text name f e one (Faulty legible items holds fault refused is) =
@@ -81,7 +81,7 @@ text-differs text name f e one (Faulty legible items holds fault refused is) =
     (subst (λ (x : List Item). body.AreRefused IsBadStatement IsInsnText name (length (lines text)) x fault) same refused) one.function
 
 -- a text is refused in one way
-pub refused-once : (text name : List ℕ) (a b : ReadRefusal) → IsRefused text name a → IsRefused text name b → a ≡ b
+pub refused-once : (text name : List ℕ) (a b : ReadRefusal) → IsFunctionRefusal text name a → IsFunctionRefusal text name b → a ≡ b
 refused-once text name a b (NoText k bad is) (NoText j worse too) = is ∙ ap (λ n. refusal n NotUtf8) (utf8-once text k j bad worse) ∙ sym too
 refused-once text name a b (NoText k bad is) (Long utf8 j long too) = absurd (utf8-differs text k utf8 bad)
 refused-once text name a b (NoText k bad is) (Faulty legible items holds fault refused too) = absurd (utf8-differs text k legible.utf8 bad)
@@ -97,10 +97,10 @@ refused-once text name a b (Faulty legible items holds fault refused is) (Faulty
     is ∙ ap (λ (f : Fault). refusal f.line f.kind) once ∙ sym too
 
 -- and never because memory was not found
-pub refused-found : (text name : List ℕ) (e : ReadRefusal) → IsRefused text name e → e.kind ≡ Memory → ⊥
+pub refused-found : (text name : List ℕ) (e : ReadRefusal) → IsFunctionRefusal text name e → e.kind ≡ Memory → ⊥
 refused-found text name e refused is = let none : rank e.kind ≡ 0 = ap rank is in let some = refused_rank refused in omega arith
   where
-    refused_rank : IsRefused text name e → 0 < rank e.kind
+    refused_rank : IsFunctionRefusal text name e → 0 < rank e.kind
     refused_rank (NoText k bad told_is) = let same : rank e.kind ≡ 1 = ap (λ (x : ReadRefusal). rank x.kind) told_is in omega arith
     refused_rank (Long utf8 k long told_is) = let same : rank e.kind ≡ 2 = ap (λ (x : ReadRefusal). rank x.kind) told_is in omega arith
     refused_rank (Faulty legible items holds fault refused told_is) =
@@ -109,12 +109,12 @@ refused-found text name e refused is = let none : rank e.kind ≡ 0 = ap rank is
 
 -- what is so was answered
 
-pub gives-function : (text name : List ℕ) (r : Result Function ReadRefusal) → Answers out_of_memory (IsFunctionText text name) (IsRefused text name) r
+pub gives-function : (text name : List ℕ) (r : Result Function ReadRefusal) → Answers out_of_memory (IsFunctionText text name) (IsFunctionRefusal text name) r
     → (f : Function) → IsFunctionText text name f → Gives out_of_memory r (Ok f)
 gives-function text name (Ok g) h f one = ap (λ (x : Function). Ok x) (text-once text name f g one h)
-gives-function text name (Err e) h f one = unless-map (λ (refused : IsRefused text name e). absurd (text-differs text name f e one refused)) h
+gives-function text name (Err e) h f one = unless-map (λ (refused : IsFunctionRefusal text name e). absurd (text-differs text name f e one refused)) h
 
-pub gives-refusal : (text name : List ℕ) (r : Result Function ReadRefusal) → Answers out_of_memory (IsFunctionText text name) (IsRefused text name) r
-    → (e : ReadRefusal) → IsRefused text name e → Gives out_of_memory r (Err e)
+pub gives-refusal : (text name : List ℕ) (r : Result Function ReadRefusal) → Answers out_of_memory (IsFunctionText text name) (IsFunctionRefusal text name) r
+    → (e : ReadRefusal) → IsFunctionRefusal text name e → Gives out_of_memory r (Err e)
 gives-refusal text name (Ok f) h e refused = absurd (text-differs text name f e h refused)
-gives-refusal text name (Err other) h e refused = unless-map (λ (told_one : IsRefused text name other). ap (λ (x : ReadRefusal). Err x) (refused-once text name e other refused told_one)) h
+gives-refusal text name (Err other) h e refused = unless-map (λ (told_one : IsFunctionRefusal text name other). ap (λ (x : ReadRefusal). Err x) (refused-once text name e other refused told_one)) h

@@ -29,9 +29,9 @@ pub record IsFunctionText (text name : List ℕ) (f : Function) : Type 0 where
   pub no_pool : f.pool ≡ []
 
 -- the text is refused: it is no UTF-8, or has a long line, or else its items are refused
-pub data IsRefused (text name : List ℕ) (e : ReadRefusal) : Type 0 where
-  NoText : (k : ℕ) → IsNotUtf8 text k → e ≡ refusal k NotUtf8 → IsRefused text name e
-  Long : IsUtf8 text → (k : ℕ) → IsLongLine text k → e ≡ refusal k LineLong → IsRefused text name e
+pub data IsFunctionRefusal (text name : List ℕ) (e : ReadRefusal) : Type 0 where
+  NoText : (k : ℕ) → IsNotUtf8 text k → e ≡ refusal k NotUtf8 → IsFunctionRefusal text name e
+  Long : IsUtf8 text → (k : ℕ) → IsLongLine text k → e ≡ refusal k LineLong → IsFunctionRefusal text name e
   Faulty : IsLegible text → (items : List Item) → AreItems text items → (fault : Fault)
       → body.AreRefused IsBadStatement IsInsnText name (length (lines text)) items fault
-      → e ≡ refusal fault.line fault.kind → IsRefused text name e
+      → e ≡ refusal fault.line fault.kind → IsFunctionRefusal text name e

@@ -3,7 +3,7 @@ ghost use Rattle.std.specs.Prelude.{◌≡◌, ℕ, List};
 ghost use Rattle.insn_table.specs.declared.insn.Function.{Function};
 ghost use Rattle.text_lines.specs.declared.refusal.ReadKind.TheVariants.{Memory};
 ghost use Rattle.text_lines.specs.declared.refusal.ReadRefusal.{ReadRefusal};
-ghost use Rattle.att_reader.specs.FunctionText.{IsFunctionText, IsRefused};
+ghost use Rattle.att_reader.specs.FunctionText.{IsFunctionText, IsFunctionRefusal};
 
 /// A law: a text spells at most one function of a name, is refused in at most one way, and not both. No text
 /// is refused because memory was not found.
@@ -11,8 +11,9 @@ pub fn texts_have_one_meaning()
     ensures function { (text name : List ℕ) (f g : Function)
         → IsFunctionText text name f → IsFunctionText text name g → f ≡ g }
     ensures not_both { (text name : List ℕ) (f : Function) (e : ReadRefusal)
-        → IsFunctionText text name f → IsRefused text name e → ⊥ }
+        → IsFunctionText text name f → IsFunctionRefusal text name e → ⊥ }
     ensures refusal { (text name : List ℕ) (a b : ReadRefusal)
-        → IsRefused text name a → IsRefused text name b → a ≡ b }
-    ensures not_memory { (text name : List ℕ) (e : ReadRefusal) → IsRefused text name e → e.kind ≡ Memory → ⊥ }
+        → IsFunctionRefusal text name a → IsFunctionRefusal text name b → a ≡ b }
+    ensures not_memory { (text name : List ℕ) (e : ReadRefusal)
+        → IsFunctionRefusal text name e → e.kind ≡ Memory → ⊥ }
 {}

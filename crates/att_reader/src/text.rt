@@ -5,7 +5,7 @@ ghost use Rattle.insn_table.specs.Closed.{IsClosed};
 ghost use Rattle.insn_table.specs.declared.insn.Function.{Function};
 ghost use Rattle.text_lines.specs.declared.refusal.ReadRefusal.{ReadRefusal};
 ghost use Rattle.text_lines.specs.Kinds.{out_of_memory};
-ghost use Rattle.att_reader.specs.FunctionText.{IsFunctionText, IsRefused};
+ghost use Rattle.att_reader.specs.FunctionText.{IsFunctionText, IsFunctionRefusal};
 ghost use Rattle.att_reader.specs.Reading.{told, insns_of_text};
 
 use crate::body::{read_body, refused};
@@ -33,7 +33,7 @@ fn insns_in(alloc: Global, text: &[u8], name: &[u8]) -> Result<Insns, ReadRefusa
 
 /// The function of this name, or the text's first fault.
 fn function_in(alloc: Global, text: &[u8], name: &Word) -> Result<Function, ReadRefusal>
-    ensures { Answers out_of_memory (IsFunctionText text.now name.now) (IsRefused text.now name.now) result }
+    ensures { Answers out_of_memory (IsFunctionText text.now name.now) (IsFunctionRefusal text.now name.now) result }
 {
     if let Some(line) = wrong_line(text) {
         return Err(refused(line, ReadKind::NotUtf8));
@@ -55,11 +55,12 @@ fn function_in(alloc: Global, text: &[u8], name: &Word) -> Result<Function, Read
 /// The text is GNU AT&T assembly as compilers write it. Where memory is not found, that is the refusal.
 pub fn read_function(alloc: Global, text: &[u8], name: &Word) -> Result<Function, ReadRefusal>
     // What is answered is so ..
-    ensures exact { Answers out_of_memory (IsFunctionText text.now name.now) (IsRefused text.now name.now) result }
+    ensures exact { Answers out_of_memory (IsFunctionText text.now name.now)
+        (IsFunctionRefusal text.now name.now) result }
 
     // .. and what is so is answered.
     ensures only { (f : Function) → IsFunctionText text.now name.now f → Gives out_of_memory result (Ok f) }
-    ensures refused { (e : ReadRefusal) → IsRefused text.now name.now e → Gives out_of_memory result (Err e) }
+    ensures refused { (e : ReadRefusal) → IsFunctionRefusal text.now name.now e → Gives out_of_memory result (Err e) }
 
     // Whatever is read can be run from any of its instructions on.
     ensures closed { IfOk result (λ f. IsClosed f.insns) }

@@ -13,7 +13,7 @@ use Rattle.clap.proofs.ValueTestLemmas.{Accepts-accepts}
 use Rattle.clap.proofs.WalkLemmas.{first_value-rows, one_text-rows}
 use Rattle.command_line.specs.Command.{Command, DecidePlain, GiveSteps, IsNumberWithin, Run, Show}
 use Rattle.command_line.specs.Parts.{Valued}
-use Rattle.command_line.specs.Parser.{AreWords, Gives, GivesCommand, decide_parser, joined_option, run_parser, show_parser}
+use Rattle.command_line.specs.Parser.{AreWords, GivesValue, GivesCommand, decide_parser, joined_option, run_parser, show_parser}
 use Rattle.command_line.specs.declared.command.Form.TheVariants as form
 
 -- ---- the words of each form, with their plain arguments
@@ -178,7 +178,7 @@ show-passes words (Show function) h = rw (h.whole, h.values.0, h.values.1) (show
 show-passes words _ h = absurd h.values
 
 first-known : (m : ArgMatches) (app : App) (words : List Text) (id text : Text) → rows_of (found_of m) ≡ matches_of app words
-    → first_of id (matches_of app words) ≡ Some text → Gives m id text
+    → first_of id (matches_of app words) ≡ Some text → GivesValue m id text
 first-known m app words id text rows h = first_value-rows (found_of m) id ∙ ap (first_of id) rows ∙ h
 
 -- the matches have the values of the command

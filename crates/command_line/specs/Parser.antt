@@ -65,16 +65,16 @@ pub record AreWords (form : Form) (words : List (List ℕ)) (command : Command) 
   pub values : AreOf form line command
 
 -- the matches of a parse have this text under this name
-abbrev pub Gives : ArgMatches → List ℕ → List ℕ → Type 0
-Gives matches id text = first_value (found_of matches) id ≡ Some text
+abbrev pub GivesValue : ArgMatches → List ℕ → List ℕ → Type 0
+GivesValue matches id text = first_value (found_of matches) id ≡ Some text
 
 -- the matches have the values of this command
 abbrev pub GivesCommand : ArgMatches → Command → Type 0
 GivesCommand matches (DecidePlain left right) =
-    Gives matches (codes "left") left.file × Gives matches (codes "left_function") left.name
-    × Gives matches (codes "right") right.file × Gives matches (codes "right_function") right.name
+    GivesValue matches (codes "left") left.file × GivesValue matches (codes "left_function") left.name
+    × GivesValue matches (codes "right") right.file × GivesValue matches (codes "right_function") right.name
 GivesCommand matches (Run run) =
-    Gives matches (codes "file") run.function.file × Gives matches (codes "function") run.function.name
-    × Gives matches (codes "admission") run.admission × Gives matches (codes "tests") run.tests
+    GivesValue matches (codes "file") run.function.file × GivesValue matches (codes "function") run.function.name
+    × GivesValue matches (codes "admission") run.admission × GivesValue matches (codes "tests") run.tests
     × (one_text (found_of matches) (codes "steps") ≡ Some (decimal run.steps)) × (run.steps < 2 ^ 64)
-GivesCommand matches (Show function) = Gives matches (codes "file") function.file × Gives matches (codes "function") function.name
+GivesCommand matches (Show function) = GivesValue matches (codes "file") function.file × GivesValue matches (codes "function") function.name

@@ -4,7 +4,7 @@
 ghost use Rattle.std.specs.Prelude.{◌≡◌, ◌++◌, ◌<◌, ◌^◌, List, Some, ℕ, IfErr, IfOk, OnOk, codes, decimal, map, string_bytes};
 ghost use Rattle.clap.specs.Words.{app_of, found_of, kind_of, new_rule, one_text, with_rule};
 ghost use Rattle.command_line.specs.Command as plain;
-ghost use Rattle.command_line.specs.Parser.{AreWords, Gives, GivesCommand, joined_option, parser_words};
+ghost use Rattle.command_line.specs.Parser.{AreWords, GivesValue, GivesCommand, joined_option, parser_words};
 ghost use Rattle.command_line.specs.View.{command_view, line_view, option_view};
 ghost use Rattle.command_line.specs.declared.command.Form.TheVariants as form;
 
@@ -148,8 +148,8 @@ fn show_matches<'a>(alloc: Global, words: &'a [String]) -> Result<ArgMatches<'a>
 
 /// The value of an argument that has one.
 fn word_of(alloc: Global, matches: &ArgMatches<'_>, id: &str) -> Result<Word, Memory>
-    requires { (text : List ℕ) × Gives matches.now id.now text }
-    ensures { IfOk result (λ word. Gives matches.now id.now word) }
+    requires { (text : List ℕ) × GivesValue matches.now id.now text }
+    ensures { IfOk result (λ word. GivesValue matches.now id.now word) }
 {
     Word::new(alloc, matches.get_str(id).unwrap().as_bytes())
 }

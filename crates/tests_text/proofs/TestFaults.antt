@@ -15,7 +15,7 @@ use Rattle.tests_text.specs.declared.refusal.TestRefusal.TheVariants.{BadShape, 
 use Rattle.tests_text.specs.declared.test.Test.{Test}
 use Rattle.tests_text.specs.declared.test.Tests.{Tests}
 use Rattle.tests_text.specs.Shapes.{IsTest}
-use Rattle.tests_text.specs.TestFiles.{all_numbered, AreTests, Faulty, HasTests, IsTestFault, IsJson, IsRefused, IsTestsText, Many, Numbered, Outer, Unread, fault_number, numbered, rank}
+use Rattle.tests_text.specs.TestFiles.{all_numbered, AreTests, Faulty, HasTests, IsTestFault, IsJson, IsTestsRefusal, IsTestsText, Many, Numbered, Outer, Unread, fault_number, numbered, rank}
 use Rattle.tests_text.specs.Reading.{bytes_of, outer_of, parts_of}
 use Rattle.tests_text.specs.ReadingTests.{count_of, file_of, test_by, test_of, test_with, tests_from, tests_in}
 use Rattle.tests_text.proofs.PartsOf.{IsParts, outer-known, outer-only, parts-known, parts-only}
@@ -250,13 +250,13 @@ tests-once d ds es a b = same_Some ds es (ap (λ (o : Option Data). option_of o)
     option_of None = None
     option_of (Some x) = as_array x
 
-refusal-by : (text : List ℕ) (d : Data) (e : TestRefusal) → IsJson text d → IsFileRight d (Err e) → IsRefused text e
+refusal-by : (text : List ℕ) (d : Data) (e : TestRefusal) → IsJson text d → IsFileRight d (Err e) → IsTestsRefusal text e
 refusal-by text d e json (inl p) = Outer d json p.0 p.1
 refusal-by text d e json (inr (inl p)) = Many d json p.0 p.1 p.2 p.3
 refusal-by text d e json (inr (inr p)) = Faulty d json p.0 p.1 p.2 p.3
 
 -- what is answered of a text with a value is so
-pub value-reads : (text : List ℕ) (d : Data) (result : Result Tests TestRefusal) → IsJson text d → Gives Memory result (file_of d) → Answers Memory (IsTestsText text) (IsRefused text) result
+pub value-reads : (text : List ℕ) (d : Data) (result : Result Tests TestRefusal) → IsJson text d → Gives Memory result (file_of d) → Answers Memory (IsTestsText text) (IsTestsRefusal text) result
 value-reads text d (Ok tests) json gives =
     let right = subst (IsFileRight d) gives (file-right d) in
     record { value = d; json = json; items = right.0; has = right.1; few = right.2; each = right.3 }
@@ -292,7 +292,7 @@ faulty-in ds e few first =
     let low : ltb 64 (count_of ds) ≡ false = le-ltb 64 (count_of ds) (omega (arith, count-is ds 1)) in
     ap (λ (t : Bool). cond t (Err TooMany) (tests_from 1 ds >>= λ xs. Ok (with_tests xs))) low ∙ first-in ds e (tests_from 1 ds) (tests-outcome ds 1 []) first
 
-file-refused : (text : List ℕ) (d : Data) (e : TestRefusal) → IsJson text d → IsRefused text e → file_of d ≡ Err e
+file-refused : (text : List ℕ) (d : Data) (e : TestRefusal) → IsJson text d → IsTestsRefusal text e → file_of d ≡ Err e
 unfolding file_of
 file-refused text d e json (Unread none is) = absurd (none d json)
 file-refused text d e json (Outer c known none is) =
@@ -305,25 +305,25 @@ file-refused text d e json (Faulty c known ds has few first) =
     let outer = outer-only d ds (subst (λ (x : Data). HasTests x ds) (json-once text c d known json) has) in
     ap tests_in outer ∙ faulty-in ds e few first
 
-pub value-refused : (text : List ℕ) (d : Data) (result : Result Tests TestRefusal) → IsJson text d → Gives Memory result (file_of d) → (e : TestRefusal) → IsRefused text e
+pub value-refused : (text : List ℕ) (d : Data) (result : Result Tests TestRefusal) → IsJson text d → Gives Memory result (file_of d) → (e : TestRefusal) → IsTestsRefusal text e
     → Gives Memory result (Err e)
 value-refused text d result json gives e refused = subst (Gives Memory result) (file-refused text d e json refused) gives
 
 -- a text without a value
 
-unread-only : (text : List ℕ) → ((d : Data) → IsJson text d → ⊥) → (e : TestRefusal) → IsRefused text e → e ≡ NotJson
+unread-only : (text : List ℕ) → ((d : Data) → IsJson text d → ⊥) → (e : TestRefusal) → IsTestsRefusal text e → e ≡ NotJson
 unread-only text none e (Unread alike is) = is
 unread-only text none e (Outer c known without is) = absurd (none c known)
 unread-only text none e (Many c known ds has many is) = absurd (none c known)
 unread-only text none e (Faulty c known ds has few first) = absurd (none c known)
 
-pub unread-reads : (text : List ℕ) → ((d : Data) → IsJson text d → ⊥) → Answers {A = Tests} Memory (IsTestsText text) (IsRefused text) (Err NotJson)
+pub unread-reads : (text : List ℕ) → ((d : Data) → IsJson text d → ⊥) → Answers {A = Tests} Memory (IsTestsText text) (IsTestsRefusal text) (Err NotJson)
 unread-reads text none = inr (Unread none refl)
 
 pub unread-gives : (text : List ℕ) → ((d : Data) → IsJson text d → ⊥) → (tests : Tests) → IsTestsText text tests → Gives {A = Tests} Memory (Err NotJson) (Ok tests)
 unread-gives text none tests is = absurd (none is.value is.json)
 
-pub unread-refused : (text : List ℕ) → ((d : Data) → IsJson text d → ⊥) → (e : TestRefusal) → IsRefused text e → Gives {A = Tests} Memory (Err NotJson) (Err e)
+pub unread-refused : (text : List ℕ) → ((d : Data) → IsJson text d → ⊥) → (e : TestRefusal) → IsTestsRefusal text e → Gives {A = Tests} Memory (Err NotJson) (Err e)
 unread-refused text none e refused = inr (ap (λ (x : TestRefusal). Err x) (unread-only text none e refused))
 
 -- one meaning
@@ -333,21 +333,21 @@ pub text-once : (text : List ℕ) (a b : Tests) → IsTestsText text a → IsTes
 text-once text a b one two = let p = text-read text one.value a one.json one in let q = text-read text one.value b one.json two in cc
 
 -- is not refused then
-pub text-differs : (text : List ℕ) (tests : Tests) (e : TestRefusal) → IsTestsText text tests → IsRefused text e → ⊥
+pub text-differs : (text : List ℕ) (tests : Tests) (e : TestRefusal) → IsTestsText text tests → IsTestsRefusal text e → ⊥
 text-differs text tests e is refused = let p = text-read text is.value tests is.json is in let q = file-refused text is.value e is.json refused in cc
 
-one_refusal : (text : List ℕ) (d : Data) (a b : TestRefusal) → IsJson text d → IsRefused text a → IsRefused text b → a ≡ b
+one_refusal : (text : List ℕ) (d : Data) (a b : TestRefusal) → IsJson text d → IsTestsRefusal text a → IsTestsRefusal text b → a ≡ b
 one_refusal text d a b json one two = let p = file-refused text d a json one in let q = file-refused text d b json two in cc
 
 -- is refused in at most one way
-pub refused-once : (text : List ℕ) (a b : TestRefusal) → IsRefused text a → IsRefused text b → a ≡ b
+pub refused-once : (text : List ℕ) (a b : TestRefusal) → IsTestsRefusal text a → IsTestsRefusal text b → a ≡ b
 refused-once text a b (Unread none is) other = is ∙ sym (unread-only text none b other)
 refused-once text a b (Outer d json none is) other = one_refusal text d a b json (Outer d json none is) other
 refused-once text a b (Many d json ds has many is) other = one_refusal text d a b json (Many d json ds has many is) other
 refused-once text a b (Faulty d json ds has few first) other = one_refusal text d a b json (Faulty d json ds has few first) other
 
 -- and never because memory was not found
-pub refused-found : (text : List ℕ) (e : TestRefusal) → IsRefused text e → e ≡ Memory → ⊥
+pub refused-found : (text : List ℕ) (e : TestRefusal) → IsTestsRefusal text e → e ≡ Memory → ⊥
 refused-found text e (Unread none is) memory = cc
 refused-found text e (Outer d json none is) memory = cc
 refused-found text e (Many d json ds has many is) memory = cc

@@ -75,9 +75,9 @@ rank (TooManyBytes k) = 1
 rank Memory = 0
 
 -- the refusal of a text: no JSON, an outer value that is not as it should be, too many tests, or else the first fault of a test
-pub data IsRefused (text : List ℕ) (e : TestRefusal) : Type 0 where
-  Unread : ((d : Data) → IsJson text d → ⊥) → e ≡ NotJson → IsRefused text e
-  Outer : (d : Data) → IsJson text d → ((ds : Items) → HasTests d ds → ⊥) → e ≡ BadShape 0 → IsRefused text e
-  Many : (d : Data) → IsJson text d → (ds : Items) → HasTests d ds → 64 < length (all_numbered ds) → e ≡ TooMany → IsRefused text e
+pub data IsTestsRefusal (text : List ℕ) (e : TestRefusal) : Type 0 where
+  Unread : ((d : Data) → IsJson text d → ⊥) → e ≡ NotJson → IsTestsRefusal text e
+  Outer : (d : Data) → IsJson text d → ((ds : Items) → HasTests d ds → ⊥) → e ≡ BadShape 0 → IsTestsRefusal text e
+  Many : (d : Data) → IsJson text d → (ds : Items) → HasTests d ds → 64 < length (all_numbered ds) → e ≡ TooMany → IsTestsRefusal text e
   Faulty : (d : Data) → IsJson text d → (ds : Items) → HasTests d ds → length (all_numbered ds) ≤ 64
-      → IsFirst IsTestFault (Precedes fault_number rank) [] (all_numbered ds) e → IsRefused text e
+      → IsFirst IsTestFault (Precedes fault_number rank) [] (all_numbered ds) e → IsTestsRefusal text e

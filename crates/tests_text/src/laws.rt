@@ -1,6 +1,6 @@
 //! The laws of files of tests.
 ghost use Rattle.std.specs.Prelude.{◌≡◌, ℕ, List};
-ghost use Rattle.tests_text.specs.TestFiles.{IsRefused, IsTestsText};
+ghost use Rattle.tests_text.specs.TestFiles.{IsTestsRefusal, IsTestsText};
 ghost use Rattle.tests_text.specs.declared.refusal.TestRefusal.{TestRefusal};
 ghost use Rattle.tests_text.specs.declared.test.Tests.{Tests};
 
@@ -9,7 +9,9 @@ ghost use Rattle.tests_text.specs.declared.test.Tests.{Tests};
 pub fn tests_have_one_meaning()
     ensures tests { (text : List ℕ) (a b : Tests) → IsTestsText text a → IsTestsText text b → a ≡ b }
     ensures not_both { (text : List ℕ) (tests : Tests) (e : TestRefusal)
-        → IsTestsText text tests → IsRefused text e → ⊥ }
-    ensures refusal { (text : List ℕ) (a b : TestRefusal) → IsRefused text a → IsRefused text b → a ≡ b }
-    ensures not_memory { (text : List ℕ) (e : TestRefusal) → IsRefused text e → e ≡ TestRefusal.Memory → ⊥ }
+        → IsTestsText text tests → IsTestsRefusal text e → ⊥ }
+    ensures refusal { (text : List ℕ) (a b : TestRefusal)
+        → IsTestsRefusal text a → IsTestsRefusal text b → a ≡ b }
+    ensures not_memory { (text : List ℕ) (e : TestRefusal)
+        → IsTestsRefusal text e → e ≡ TestRefusal.Memory → ⊥ }
 {}

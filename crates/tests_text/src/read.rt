@@ -5,7 +5,7 @@ ghost use Rattle.serde_json.specs.Errors.{IsMemory};
 ghost use Rattle.serde_json.specs.View.{items_view, view};
 ghost use Rattle.tests_text.specs.Reading as reading;
 ghost use Rattle.tests_text.specs.ReadingTests as tests;
-ghost use Rattle.tests_text.specs.TestFiles.{IsRefused, IsTestsText};
+ghost use Rattle.tests_text.specs.TestFiles.{IsTestsRefusal, IsTestsText};
 ghost use Rattle.tests_text.specs.declared.refusal.TestRefusal.{TestRefusal};
 ghost use Rattle.tests_text.specs.declared.test.Tests.{Tests};
 
@@ -108,11 +108,11 @@ fn file_of(alloc: Global, value: &Value) -> Result<Tests, TestRefusal>
 /// memory is wanted and not found, that is the refusal.
 pub fn read_tests(alloc: Global, bytes: &[u8]) -> Result<Tests, TestRefusal>
     // What is answered is so ..
-    ensures exact { Answers TestRefusal.Memory (IsTestsText bytes.now) (IsRefused bytes.now) result }
+    ensures exact { Answers TestRefusal.Memory (IsTestsText bytes.now) (IsTestsRefusal bytes.now) result }
 
     // .. and what is so is answered.
     ensures only { (tests : Tests) → IsTestsText bytes.now tests → Gives TestRefusal.Memory result (Ok tests) }
-    ensures refused { (e : TestRefusal) → IsRefused bytes.now e → Gives TestRefusal.Memory result (Err e) }
+    ensures refused { (e : TestRefusal) → IsTestsRefusal bytes.now e → Gives TestRefusal.Memory result (Err e) }
 {
     match Value::from_slice(alloc, bytes) {
         Ok(value) => file_of(alloc, &value),

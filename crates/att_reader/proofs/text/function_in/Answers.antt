@@ -4,7 +4,7 @@ use Rattle.outcomes.proofs.Answering.{unless-map}
 use Rattle.text_lines.specs.declared.refusal.ReadKind.TheVariants.{NotUtf8, LineLong}
 use Rattle.text_lines.specs.Kinds.{out_of_memory}
 use Rattle.text_lines.proofs.TextFaults.{long-known, short-known}
-use Rattle.att_reader.specs.FunctionText.{IsLegible, IsRefused, NoText, Long}
+use Rattle.att_reader.specs.FunctionText.{IsLegible, IsFunctionRefusal, NoText, Long}
 use Rattle.att_reader.specs.Reading.{told, insns_of_text}
 use Rattle.att_reader.proofs.LoopSteps.{refused-is}
 use Rattle.att_reader.proofs.TextLaws.{text-function, text-refused}
@@ -12,12 +12,12 @@ use Rattle.att_reader.proofs.text.function_in.Goals as goal
 
 pub returns-in-Some : goal.returns-in-Some
 returns-in-Some c =
-    refused-is (IsRefused c.args.text.now c.args.name.now) c.refused.result c.in-Some.line NotUtf8 c.refused.ensures (NoText c.in-Some.line c.in-Some.ensures refl)
+    refused-is (IsFunctionRefusal c.args.text.now c.args.name.now) c.refused.result c.in-Some.line NotUtf8 c.refused.ensures (NoText c.in-Some.line c.in-Some.ensures refl)
 
 pub returns-in-Some-long_line : goal.returns-in-Some-long_line
 returns-in-Some-long_line c =
     let line = c.in-Some-long_line.line in
-    refused-is (IsRefused c.args.text.now c.args.name.now) c.refused-in-Some-long_line.result line LineLong c.refused-in-Some-long_line.ensures
+    refused-is (IsFunctionRefusal c.args.text.now c.args.name.now) c.refused-in-Some-long_line.result line LineLong c.refused-in-Some-long_line.ensures
     (Long c.in_default.ensures line (long-known c.args.text.now line (sym c.in-Some-long_line.ensures)) refl)
 
 pub returns-in_err-insns : goal.returns-in_err-insns
