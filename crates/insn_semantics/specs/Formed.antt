@@ -38,3 +38,8 @@ IsFormed leaves (Extended m n x) = (expr_width leaves x ≡ m) × (m < n) × (n 
 IsFormed leaves (Choice c x y) =
     (expr_width leaves c ≡ 1) × (expr_width leaves x ≡ expr_width leaves y) × IsFormed leaves c × IsFormed leaves x × IsFormed leaves y
 IsFormed leaves (Let i x y) = IsFormed leaves x × IsFormed (with_leaf leaves i (expr_width leaves x)) y
+
+-- an expression whose widths agree, of n bits
+pub record IsFormedAt (widths : ℕ → ℕ) (n : ℕ) (x : Expr) : Type 0 where
+  pub formed : IsFormed widths x
+  pub width : expr_width widths x ≡ n

@@ -2,6 +2,7 @@ pub mod Conditions
 pub mod Exprs
 pub mod FlagRules
 pub mod Formed
+pub mod FormedRows
 pub mod OperationGroups
 pub mod Rows
 pub mod SignedNumbers
