@@ -1,3 +1,5 @@
 pub mod Chains
+pub mod FormedLaws
 pub mod RowLaws
 pub mod SignedSaturation
+pub mod SourceBits

@@ -1,3 +1,4 @@
+pub mod FormedLanes
 pub mod LaneRows
 pub mod LaneValues
 pub mod MoveRows

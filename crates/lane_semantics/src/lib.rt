@@ -7,9 +7,11 @@
 //! saturated to 8 bits: the sum of 100 and 100 is 127.
 #![tactic(auto)]
 
+mod formed_laws;
 mod laws;
 mod source;
 
+pub use formed_laws::lanes_are_formed;
 pub use laws::{
     averages_round_up, chains_give_a_byte_and_a_mask, equal_lanes_give_ones,
     halves_of_products_make_the_product, long_shifts_leave_zeros_or_the_sign,
