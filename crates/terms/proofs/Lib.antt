@@ -1,5 +1,6 @@
 pub mod Built
 pub mod CutLaws
+pub mod DistinctNodes
 pub mod GrowingNodes
 pub mod MadeLaws
 pub mod RuleLaws

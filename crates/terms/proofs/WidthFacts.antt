@@ -1,7 +1,7 @@
 -- What a sheet's list of widths says of its nodes, in the forms in which the rules ask for it.
-use Rattle.std.proofs.Common.{◌≡◌, ℕ, zero, suc, ◌+◌, ◌<◌, ◌≤◌, ◌^◌, List, [], ◌∷◌, ◌++◌, length, length-append, get_or, refl, sym, ◌∙◌, ap, subst, arith, inl, inr}
+use Rattle.std.proofs.Common.{◌≡◌, ℕ, zero, suc, ◌+◌, ◌<◌, ◌≤◌, ◌^◌, List, [], ◌∷◌, ◌++◌, false, length, length-append, get_or, refl, sym, ◌∙◌, ap, subst, arith, inl, inr}
 use Rattle.std.specs.Prelude.{slice_index, unwrap_or}
-use Rattle.std.specs.List.{AllByRecursion}
+use Rattle.std.specs.List.{AllByRecursion, list_any}
 use Rattle.node_values.specs.declared.node.Node.{Node}
 use Rattle.node_values.specs.declared.node.Node.TheVariants.{Const}
 use Rattle.node_values.specs.Nodes.{AreWordWidths, IsNode, arguments, node_width}
@@ -11,6 +11,7 @@ use Rattle.node_values.specs.Sheets.{node_at, value_at, width_at}
 use Rattle.node_values.specs.Values.{Environment, node_value}
 use Rattle.node_values.proofs.NodeLaws.{SameAt, arguments_lower, node_value_same}
 use Rattle.node_values.proofs.SheetLaws.{IsSheet-push, at_arguments, value_at-below, value_at-is, width_at-append, width_at-is, width_at-push}
+use Rattle.terms.proofs.DistinctNodes.{distinct_push}
 use Rattle.terms.proofs.GrowingNodes.{IsNode_grows}
 use Rattle.std.proofs.lemmas.Bool.{cases_lt}
 use Rattle.std.proofs.lemmas.List.{get_or_past}
@@ -19,6 +20,7 @@ use Rattle.node_forms.proofs.WidthLists.{node_by_widths, same_widths, word_width
 use Rattle.std.proofs.Math.ListN.{get_or-append}
 use Rattle.std.proofs.Math.Seq.{get_or-append_seam}
 use Rattle.terms.specs.Kept.{IsKept}
+use Rattle.terms.specs.Made.{is_same}
 use Rattle.terms.specs.Sheet.{IsWidthList}
 
 module _ (ns : List Node) (widths : List ℕ) (list : IsWidthList ns widths) where
@@ -87,9 +89,10 @@ module _ (ns : List Node) (widths : List ℕ) (list : IsWidthList ns widths) whe
 
 -- one more node and its width
 pub kept_push : (ns : List Node) (bits : List ℕ) (n : Node) (b : ℕ) → IsKept ns bits → IsNode (width_at ns) (length ns) n → length ns < 65536
-    → b ≡ node_width (width_at ns) n → IsKept (ns ++ n ∷ []) (bits ++ b ∷ [])
-kept_push ns bits n b kept node room same = record {
+    → b ≡ node_width (width_at ns) n → list_any (is_same n) ns ≡ false → IsKept (ns ++ n ∷ []) (bits ++ b ∷ [])
+kept_push ns bits n b kept node room same absent = record {
   sheet = IsSheet-push ns kept.sheet n node;
+  distinct = distinct_push ns n absent kept.distinct;
   widths = (omega (arith, length-append ns (n ∷ []), length-append bits (b ∷ []), kept.widths.0), each);
   room = omega (arith, length-append ns (n ∷ []));
 }

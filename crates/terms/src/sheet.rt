@@ -7,7 +7,7 @@ ghost use Rattle.node_values.specs.Environments.{environment_of};
 ghost use Rattle.node_values.specs.Nodes.{IsNode, node_width};
 ghost use Rattle.node_values.specs.Sheets.{Extends, IsSheet, node_at, value_at, width_at};
 ghost use Rattle.node_values.specs.Values.{Environment, node_value};
-ghost use Rattle.terms.specs.Kept.{IsKept};
+ghost use Rattle.terms.specs.Kept.{AreDistinct, IsKept};
 ghost use Rattle.terms.specs.Sheet.{IsWidthList};
 ghost use Rattle.terms.specs.Made.{GrowsInRoom, IsEquality, made, placed};
 ghost use Rattle.terms.specs.declared.rules.Reduced.TheVariants as reductions;
@@ -111,6 +111,7 @@ impl Sheet {
             → IsEquality node ⊎ GrowsInRoom self.old (made self.old node).nodes }
         ensures err { OnErr result (self.new ≡ self.old) }
         ensures sheet { IsSheet self.new }
+        ensures distinct { AreDistinct self.new }
         ensures room { length self.new ≤ 65536 }
     {
         let id = build_in(self.alloc, &mut self.nodes, &mut self.widths, node)?;
@@ -133,9 +134,10 @@ impl Sheet {
         self.widths[id.0 as usize]
     }
 
-    /// That the list is a sheet. It does nothing.
+    /// That the list is a sheet, and has each node once. It does nothing.
     pub fn in_order(&self)
         ensures sheet { IsSheet self.now }
+        ensures distinct { AreDistinct self.now }
         ensures room { length self.now ≤ 65536 }
     {
         let _ = &self.nodes;

@@ -31,6 +31,6 @@ returns-in-Ok-clause-kept c =
     ∙ ap (λ f. node_width f c.args.node) (same_widths c.args.nodes.now.keys c.args.widths.now.items c.requires.kept.widths) in
     let room : length c.args.nodes.now.keys < 65536 =
     let most = c.requires.kept.room in let not_full = c.if-at-eq65536.false in omega (arith, c.len-at.ensures.len) in
-    let pushed = kept_push c.args.nodes.now.keys c.args.widths.now.items c.args.node c.width.result c.requires.kept c.requires.node room bits in
+    let pushed = kept_push c.args.nodes.now.keys c.args.widths.now.items c.args.node c.width.result c.requires.kept c.requires.node room bits absent in
     let P : List Node → Type 0 = λ ns. IsKept ns c.push.new.self.items in
     subst P (sym keys) (subst (IsKept (c.args.nodes.now.keys ++ c.args.node ∷ [])) (sym c.in_ok-push.ensures.items) pushed)
