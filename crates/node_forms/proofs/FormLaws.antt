@@ -1,26 +1,19 @@
 -- The coefficients of forms, their constants and the values of nodes are all linear in the nodes.
-use Rattle.std.proofs.Common.{◌≡◌, ℕ, zero, suc, ◌+◌, ◌-◌, ◌*◌, ◌/◌, ◌%◌, ◌^◌, ◌<◌, ◌≤◌, ◌==◌, List, Option, Some, None, Bool, true, false, length, refl, sym, ◌∙◌, ap, subst, arith, inl, inr, div-one, if◌then◌else◌}
-use Rattle.std.specs.Prelude.{nat_le}
-use Rattle.std.proofs.lemmas.Bool.{cases_Bool, leb-true}
-use Rattle.std.proofs.lemmas.Nat.{mod_below, mod_low, pow-add, pow_pos}
-use Rattle.std.proofs.Math.Nat.{mod-mod, add-mul-mod_self_left, mod-eq_of_lt}
-use Rattle.std.proofs.Math.Pow.{mod-mod-pow}
+use Rattle.std.proofs.Common.{◌≡◌, ℕ, ◌+◌, ◌*◌, ◌^◌, ◌<◌, ◌≤◌, ◌==◌, List, Bool, true, false, length, refl, sym, ◌∙◌, arith, if◌then◌else◌}
+use Rattle.std.proofs.lemmas.Nat.{mod_below, pow_pos}
+use Rattle.std.proofs.Math.Nat.{mod-eq_of_lt}
 use Rattle.insn_semantics.specs.Words as words
-use Rattle.insn_semantics.proofs.WordLaws.{mod-sign_extension, plus-minus, power_grows}
+use Rattle.insn_semantics.proofs.WordLaws.{plus-minus, power_grows}
 use Rattle.node_values.specs.declared.node.Node.{Node}
-use Rattle.node_values.specs.declared.node.Node.TheVariants.{Const, Reg, Entry, VecByte, Start, Probe, Add, Sub, Mul, And, Or, Xor, Not, Shl, Shr, Sar, Cat, Cut, Sx, Eq, Ult, Slt, If}
-use Rattle.node_values.specs.declared.node.NodeId.{NodeId}
-use Rattle.node_values.specs.Nodes.{IsNode, node_width}
-use Rattle.node_values.specs.Values.{Environment, node_value}
-use Rattle.node_values.specs.Sheets.{IsSheet, node_at, value_at, width_at}
+use Rattle.node_values.specs.Nodes.{node_width}
+use Rattle.node_values.specs.Sheets.{IsSheet, node_at, width_at}
 use Rattle.node_values.proofs.Lower.{IsLocal, from_lower-is}
-use Rattle.node_values.proofs.SheetLaws.{value_at-below, value_at-is, width_at-is}
 use Rattle.node_forms.specs.declared.linear.Linear.{Linear}
 use Rattle.node_forms.specs.declared.linear.Linear.TheVariants.{Atom, Number, Times, Plus, Minus}
-use Rattle.node_forms.specs.Linearity.{constant_of, linearity, low_bits_of, product}
+use Rattle.node_forms.specs.Linearity.{linearity}
 use Rattle.node_forms.specs.Forms.{LinearForm, form_at, form_by, no_form}
 use Rattle.node_forms.specs.Sums.{Follows, IsLinear, SameWord}
-use Rattle.node_forms.proofs.Residues.{same_add, same_low, same_number, same_times}
+use Rattle.node_forms.proofs.Residues.{same_low, same_number}
 use Rattle.node_forms.proofs.LinearLaws.{AllParts, IsLower, linearity_parts, parts_weaker}
 
 form_by_same : (w : ℕ) (f g : ℕ → LinearForm) (i : ℕ) (linear : Linear) → AllParts (λ a. f a.0 ≡ g a.0) linear

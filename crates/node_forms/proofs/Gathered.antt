@@ -1,16 +1,17 @@
 -- What a gathered form says: of one node it is the form, and of a difference of two it tells whether their forms
 -- differ by a constant.
-use Rattle.std.proofs.Common.{◌≡◌, ℕ, zero, suc, ◌+◌, ◌-◌, ◌*◌, ◌%◌, ◌^◌, ◌<◌, ◌≤◌, ◌==◌, List, [], ◌∷◌, Some, None, Bool, true, false, ◌&&◌, length, refl, sym, ◌∙◌, ap, subst, arith, inl, inr, if◌then◌else◌}
+use Rattle.std.proofs.Common.{◌≡◌, ℕ, zero, suc, ◌+◌, ◌-◌, ◌*◌, ◌%◌, ◌^◌, ◌<◌, ◌≤◌, ◌==◌, List, [], ◌∷◌, Option, Some, None, Bool, true, false, length, refl, sym, ◌∙◌, ap, arith, inl, inr, if◌then◌else◌, zero-add}
 use Rattle.std.specs.List.{AllByRecursion}
-use Rattle.std.proofs.lemmas.Bool.{cases_Bool, eqb-false, eqb-true, eq-eqb, ne_eqb}
-use Rattle.std.proofs.lemmas.Nat.{pow_pos}
-use Rattle.insn_semantics.specs.Words.{minus}
-use Rattle.insn_semantics.proofs.WordLaws.{power_grows}
+use Rattle.std.proofs.lemmas.Bool.{cases_Bool, eqb-true, eq-eqb}
+use Rattle.std.proofs.lemmas.Nat.{mod_below, pow_pos}
+use Rattle.std.proofs.Math.Nat.{mod-eq_of_lt}
+use Rattle.insn_semantics.specs.Words.{minus, plus}
+use Rattle.insn_semantics.proofs.WordLaws.{minus_self, plus-minus, power_grows}
 use Rattle.node_values.specs.declared.node.Node.{Node}
 use Rattle.node_values.specs.declared.node.NodeId.{NodeId}
-use Rattle.node_values.specs.Sheets.{IsSheet, node_at, width_at}
-use Rattle.node_forms.specs.Forms.{LinearForm, differ_by_constant, form_at, holds_below}
-use Rattle.node_forms.specs.Listed.{TellsDifference}
+use Rattle.node_values.specs.Sheets.{IsSheet}
+use Rattle.node_forms.specs.Forms.{differ_by_constant, form_at, holds_below}
+use Rattle.node_forms.specs.Listed.{difference_of_forms}
 use Rattle.node_forms.specs.Sums.{AreAtoms, AreFalling, IsLinear, SameWord, listed_coefficient, weighted_sum, with_weight}
 use Rattle.node_forms.proofs.FormLaws.{coefficient_below, coefficient_linear, constant_below, constant_linear}
 use Rattle.node_forms.proofs.FormValues.{below_at, tests_agree}
@@ -121,16 +122,16 @@ module _ (ns : List Node) (sheet : IsSheet ns) (w : ℕ) (positive : 0 < w) (a b
         absurd (omega (arith, some, nothing))
   ]
 
-  -- the constant is 0 where the forms' constants are equal
-  pub constants_differ : (c == 0) ≡ ((form_at ns w a.0).constant == (form_at ns w b.0).constant)
-  constants_differ =
-      tests_agree c 0 (form_at ns w a.0).constant (form_at ns w b.0).constant
-      (λ none. same_below w (form_at ns w a.0).constant (form_at ns w b.0).constant
-      (constant_below w positive ns sheet a.0 first) (constant_below w positive ns sheet b.0 second)
-      (sym constant_and_second ∙ same_number w _ _ (ap (λ n. n + (form_at ns w b.0).constant) none) ∙ sym (zero_plus (form_at ns w b.0).constant)))
-      (λ same. same_below w c 0 below (pow_pos w)
-      (same_drop w c 0 (form_at ns w b.0).constant
-      (constant_and_second ∙ same_number w _ _ same ∙ zero_plus (form_at ns w b.0).constant)))
+  -- the constant is the difference of the forms' constants
+  pub constant_is : c ≡ minus w (form_at ns w a.0).constant (form_at ns w b.0).constant
+  constant_is =
+      let A : ℕ = (form_at ns w a.0).constant in
+      let B : ℕ = (form_at ns w b.0).constant in
+      let left : (form_at ns w a.0).constant < 2 ^ w = constant_below w positive ns sheet a.0 first in
+      let right : (form_at ns w b.0).constant < 2 ^ w = constant_below w positive ns sheet b.0 second in
+      let back : SameWord w (minus w (form_at ns w a.0).constant (form_at ns w b.0).constant + (form_at ns w b.0).constant) (form_at ns w a.0).constant =
+      plus-minus w (form_at ns w a.0).constant (form_at ns w b.0).constant left right ∙ sym (mod-eq_of_lt left) in
+      same_below w c (minus w A B) below (mod_below (A + (2 ^ w - B)) (2 ^ w) (pow_pos w)) (same_drop w c (minus w A B) B (constant_and_second ∙ sym back))
 
 -- the coefficients of atoms are not 0
 pub atoms_some : (ns : List Node) (w : ℕ) (ps : List (NodeId × ℕ)) → AreAtoms ns w ps → AllByRecursion (λ p. 0 < p.1) ps
@@ -150,13 +151,27 @@ module _ (ns : List Node) (sheet : IsSheet ns) (w : ℕ) (positive : 0 < w) (a b
     (atoms : List (NodeId × ℕ)) (c : ℕ)
     (falling : AreFalling (length ns) atoms) (are : AreAtoms ns w atoms) (below : c < 2 ^ w)
     (sum : (k : ℕ) (f : ℕ → ℕ) → IsLinear ns w k f → SameWord w (weighted_sum f atoms + k * c) (weighted_sum f (with_weight w b (minus w 0 1) ((a, 1) ∷ [])))) where
-  pub tells_some : atoms ≡ [] → TellsDifference ns w a.0 b.0 (Some c)
-  tells_some none = (
-    no_atom ns sheet w positive a b first second atoms c falling are below sum (λ x. ap (λ ps. listed_coefficient ps x) none),
-    constants_differ ns sheet w positive a b first second atoms c falling are below sum,
-  )
+  abbrev told_by : Bool → Option ℕ
+  told_by t = if t then Some (minus w (form_at ns w a.0).constant (form_at ns w b.0).constant) else None
 
-  pub tells_none : (atoms ≡ [] → ⊥) → TellsDifference ns w a.0 b.0 None
+  pub tells_some : atoms ≡ [] → Some c ≡ difference_of_forms ns w a.0 b.0
+  tells_some none =
+      ap Some (constant_is ns sheet w positive a b first second atoms c falling are below sum)
+      ∙ ap told_by (sym (no_atom ns sheet w positive a b first second atoms c falling are below sum (λ x. ap (λ ps. listed_coefficient ps x) none)))
+
+  pub tells_none : (atoms ≡ [] → ⊥) → None ≡ difference_of_forms ns w a.0 b.0
   tells_none ne =
       let x = some_listed ns w atoms ne are in
-      some_atom ns sheet w positive a b first second atoms c falling are below sum x.0 x.1 x.2
+      ap told_by (sym (some_atom ns sheet w positive a b first second atoms c falling are below sum x.0 x.1 x.2))
+
+-- the difference of two forms' constants is 0 where the constants are equal
+pub no_difference : (ns : List Node) (sheet : IsSheet ns) (w : ℕ) (positive : 0 < w) (a b : ℕ) → a < length ns → b < length ns
+    → (minus w (form_at ns w a).constant (form_at ns w b).constant == 0) ≡ ((form_at ns w a).constant == (form_at ns w b).constant)
+no_difference ns sheet w positive a b first second =
+    let left : (form_at ns w a).constant < 2 ^ w = constant_below w positive ns sheet a first in
+    let right : (form_at ns w b).constant < 2 ^ w = constant_below w positive ns sheet b second in
+    let back : plus w (minus w (form_at ns w a).constant (form_at ns w b).constant) (form_at ns w b).constant ≡ (form_at ns w a).constant =
+    plus-minus w (form_at ns w a).constant (form_at ns w b).constant left right in
+    tests_agree (minus w (form_at ns w a).constant (form_at ns w b).constant) 0 (form_at ns w a).constant (form_at ns w b).constant
+    (λ none. sym back ∙ ap (λ n. plus w n (form_at ns w b).constant) none ∙ ap (λ n. n % 2 ^ w) (zero-add (form_at ns w b).constant) ∙ mod-eq_of_lt right)
+    (λ same. ap (λ n. minus w n (form_at ns w b).constant) same ∙ minus_self w (form_at ns w b).constant right)

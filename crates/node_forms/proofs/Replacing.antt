@@ -1,6 +1,5 @@
 -- A step of gathering keeps what holds of what there is so far.
-use Rattle.std.proofs.Common.{◌≡◌, ℕ, zero, suc, ◌+◌, ◌-◌, ◌*◌, ◌%◌, ◌^◌, ◌<◌, ◌≤◌, List, [], ◌∷◌, ◌++◌, length, refl, sym, ◌∙◌, ap, subst, arith, inl, inr}
-use Rattle.std.specs.Prelude.{max}
+use Rattle.std.proofs.Common.{◌≡◌, ℕ, ◌+◌, ◌-◌, ◌*◌, ◌%◌, ◌^◌, ◌<◌, ◌≤◌, List, [], ◌∷◌, ◌++◌, length, refl, sym, ◌∙◌, subst, arith}
 use Rattle.std.specs.List.{AllByRecursion}
 use Rattle.std.proofs.lemmas.Nat.{pow_pos, mod_below}
 use Rattle.std.proofs.Math.Nat.{mod-eq_of_lt, mul-mod_right}
@@ -13,7 +12,7 @@ use Rattle.node_values.proofs.SheetLaws.{width_at-is}
 use Rattle.node_forms.specs.declared.linear.Linear.{Linear}
 use Rattle.node_forms.specs.declared.linear.Linear.TheVariants.{Atom, Number, Times, Plus, Minus}
 use Rattle.node_forms.specs.Linearity.{linearity}
-use Rattle.node_forms.specs.Sums.{AreAtoms, AreFalling, AreRising, Follows, IsLinear, IsWide, SameWord, top_of, weighted_sum, with_weight}
+use Rattle.node_forms.specs.Sums.{AreRising, Follows, IsLinear, IsWide, SameWord, top_of, weighted_sum, with_weight}
 use Rattle.node_forms.specs.Gathering.{AreParts, Gathering, IsGathering, replaced}
 use Rattle.node_forms.proofs.Residues.{same_add, same_drop, same_low, same_number, same_times}
 use Rattle.node_forms.proofs.Weights.{all_before, all_push, all_weaker, falling_push, rising_last, top_of-append, weighted_sum-append, with_weight-all, with_weight-rising, with_weight-sum, with_weight-top}

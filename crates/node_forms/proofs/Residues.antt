@@ -1,7 +1,7 @@
 -- Sums and products of numbers that are the same modulo 2^w.
-use Rattle.std.proofs.Common.{◌≡◌, ℕ, zero, suc, ◌+◌, ◌-◌, ◌*◌, ◌%◌, ◌^◌, ◌<◌, ◌≤◌, refl, sym, ◌∙◌, ap, arith}
-use Rattle.std.proofs.lemmas.Nat.{mul-mod, mul-mod_second, mul-mod_first, pow_pos}
-use Rattle.std.proofs.Math.Nat.{add-mod, mod-mod, mod-eq_of_lt, mul-mod_right, add-mul-mod_self_left}
+use Rattle.std.proofs.Common.{◌≡◌, ℕ, zero, suc, ◌+◌, ◌-◌, ◌*◌, ◌%◌, ◌^◌, ◌<◌, refl, sym, ◌∙◌, ap, arith}
+use Rattle.std.proofs.lemmas.Nat.{mul-mod, pow_pos}
+use Rattle.std.proofs.Math.Nat.{add-mod, mod-mod, mod-eq_of_lt, add-mul-mod_self_left}
 use Rattle.node_forms.specs.Sums.{SameWord}
 
 whole : (n c m : ℕ) → 0 < m → n + c + c * (m - 1) ≡ n + m * c

@@ -1,5 +1,5 @@
 -- The values of nodes are linear in the nodes: a node's value has, modulo 2^w, the value of its form.
-use Rattle.std.proofs.Common.{◌≡◌, ℕ, zero, suc, ◌+◌, ◌-◌, ◌*◌, ◌/◌, ◌%◌, ◌^◌, ◌<◌, ◌≤◌, List, Option, Some, None, Bool, true, false, length, refl, sym, ◌∙◌, ap, subst, arith, inl, inr, div-one}
+use Rattle.std.proofs.Common.{◌≡◌, ℕ, zero, suc, ◌+◌, ◌-◌, ◌*◌, ◌/◌, ◌%◌, ◌^◌, ◌<◌, ◌≤◌, List, Option, Some, None, length, refl, sym, ◌∙◌, ap, subst, arith, inl, inr, div-one}
 use Rattle.std.specs.Prelude.{nat_le}
 use Rattle.std.proofs.lemmas.Bool.{cases_Bool, leb-true}
 use Rattle.std.proofs.lemmas.Nat.{mod_low}
@@ -13,10 +13,9 @@ use Rattle.node_values.specs.Nodes.{IsNode, node_width}
 use Rattle.node_values.specs.Values.{Environment, node_value}
 use Rattle.node_values.specs.Sheets.{IsSheet, node_at, value_at, width_at}
 use Rattle.node_values.proofs.SheetLaws.{value_at-below, value_at-is, width_at-is}
-use Rattle.node_forms.specs.declared.linear.Linear.TheVariants.{Atom, Number, Times, Plus, Minus}
 use Rattle.node_forms.specs.Linearity.{constant_of, linearity, low_bits_of, product}
 use Rattle.node_forms.specs.Sums.{Follows, IsLinear, SameWord}
-use Rattle.node_forms.proofs.Residues.{same_number, same_times}
+use Rattle.node_forms.proofs.Residues.{same_number}
 
 -- the low w bits of the low n bits
 pub low_of_low : (w n a : ℕ) → w ≤ n → a % 2 ^ n % 2 ^ w ≡ a % 2 ^ w

@@ -1,12 +1,12 @@
 -- A list of the widths of a sheet's nodes, read by number, is the widths of the sheet.
-use Rattle.std.proofs.Common.{◌≡◌, ℕ, zero, suc, ◌<◌, ◌≤◌, List, length, get_or, refl, sym, ◌∙◌, ap, subst, arith, inl, inr}
+use Rattle.std.proofs.Common.{◌≡◌, ℕ, ◌<◌, ◌≤◌, List, length, sym, ◌∙◌, ap, subst, arith, inl, inr}
 use Rattle.std.specs.Prelude.{slice_index}
 use Rattle.std.proofs.lemmas.Bool.{cases_lt}
 use Rattle.std.proofs.lemmas.List.{get_or_past}
 use Rattle.node_values.specs.declared.node.Node.{Node}
 use Rattle.node_values.specs.declared.node.Node.TheVariants.{Const}
 use Rattle.node_values.specs.Nodes.{AreWordWidths, IsNode, node_width}
-use Rattle.node_values.specs.Sheets.{AreWidths, IsSheet, from_lower, node_at, through, width_at}
+use Rattle.node_values.specs.Sheets.{AreWidths, IsSheet, node_at, through, width_at}
 use Rattle.node_values.proofs.SheetLaws.{width_ranged}
 
 -- past its end a list has no widths

@@ -1,5 +1,5 @@
 -- The linear form of a node at a width: its low w bits as a sum of coefficient times atom and a constant, modulo 2^w.
-use Rattle.std.specs.Prelude.{ℕ, zero, suc, ◌+◌, ◌*◌, ◌-◌, ◌%◌, ◌^◌, ◌==◌, Bool, true, ◌&&◌, List, length, if◌then◌else◌}
+use Rattle.std.specs.Prelude.{ℕ, zero, suc, ◌+◌, ◌*◌, ◌%◌, ◌^◌, ◌==◌, Bool, true, ◌&&◌, List, length, if◌then◌else◌}
 use Rattle.insn_semantics.specs.Words.{plus, minus, times}
 use Rattle.node_values.specs.declared.node.Node.{Node}
 use Rattle.node_values.specs.Sheets.{from_lower, node_at, width_at}

@@ -1,5 +1,5 @@
 -- How a form is gathered: the highest pending node is replaced by what it is made from, until all are atoms.
-use Rattle.std.specs.Prelude.{◌≡◌, ℕ, ◌+◌, ◌*◌, ◌%◌, ◌^◌, ◌<◌, ◌≤◌, List, [], ◌∷◌, ◌++◌, length}
+use Rattle.std.specs.Prelude.{ℕ, ◌+◌, ◌*◌, ◌%◌, ◌^◌, ◌<◌, ◌≤◌, List, [], ◌∷◌, ◌++◌, length}
 use Rattle.std.specs.List.{AllByRecursion}
 use Rattle.insn_semantics.specs.Words.{plus, minus, times}
 use Rattle.node_values.specs.declared.node.Node.{Node}

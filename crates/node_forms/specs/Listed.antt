@@ -1,6 +1,7 @@
 -- Forms as the code gives them: a list of atoms with their coefficients, and a constant.
-use Rattle.std.specs.Prelude.{◌≡◌, ℕ, ◌<◌, ◌==◌, false, true, List, Option, Some, None}
+use Rattle.std.specs.Prelude.{◌≡◌, ℕ, ◌<◌, List, Option, Some, None, if◌then◌else◌}
 use Rattle.std.specs.List.{AllByRecursion}
+use Rattle.insn_semantics.specs.Words.{minus}
 use Rattle.node_values.specs.declared.node.Node.{Node}
 use Rattle.node_forms.specs.declared.form.Form.{Form}
 use Rattle.node_forms.specs.Forms.{LinearForm, differ_by_constant, form_at}
@@ -14,9 +15,7 @@ pub record IsListed (n w : ℕ) (form : LinearForm) (listed : Form) : Type 0 whe
   pub coefficients : (atom : ℕ) → listed_coefficient listed.atoms atom ≡ form.coefficient atom
   pub constant : listed.c ≡ form.constant
 
--- whether two nodes' forms at w differ by a constant, and whether it is 0
-abbrev pub TellsDifference : List Node → ℕ → ℕ → ℕ → Option ℕ → Type 0
-TellsDifference ns w a b None = differ_by_constant ns w a b ≡ false
-TellsDifference ns w a b (Some c) =
-    (differ_by_constant ns w a b ≡ true)
-    × ((c == 0) ≡ ((form_at ns w a).constant == (form_at ns w b).constant))
+-- the number by which the form of a at w is above that of b, where they differ by a constant
+abbrev pub difference_of_forms : List Node → ℕ → ℕ → ℕ → Option ℕ
+difference_of_forms ns w a b =
+    if differ_by_constant ns w a b then Some (minus w (form_at ns w a).constant (form_at ns w b).constant) else None

@@ -3,7 +3,7 @@ ghost use Rattle.std.specs.Prelude.{◌≡◌, ℕ, ◌+◌, ◌*◌, ◌%◌, �
 ghost use Rattle.std.specs.List.{AllByRecursion};
 ghost use Rattle.node_forms.specs.Gathering.{AreParts, replaced};
 ghost use Rattle.node_forms.specs.Forms.{form_at};
-ghost use Rattle.node_forms.specs.Listed.{IsListed, TellsDifference};
+ghost use Rattle.node_forms.specs.Listed.{IsListed, difference_of_forms};
 ghost use Rattle.node_forms.specs.Sums.{AreAtoms, AreFalling, AreRising, IsLinear, SameWord, top_of, weighted_sum, with_weight};
 ghost use Rattle.node_forms.specs.Linearity.{linearity};
 ghost use Rattle.insn_semantics.specs.Words as words;
@@ -51,8 +51,8 @@ pub fn form_of(
     Ok(form)
 }
 
-/// The number that tells two nodes of one width apart where their forms differ by a constant: it is 0
-/// where the constants are equal. None where the forms differ otherwise.
+/// The number by which the form of `a` is above that of `b`, modulo 2^w, where the forms of two nodes of
+/// `w` bits differ by a constant. None where they differ otherwise.
 pub fn constant_difference(
     alloc: Global,
     nodes: &[Node],
@@ -63,7 +63,7 @@ pub fn constant_difference(
     requires sheet { IsSheet nodes.now }
     requires widths { AreWidths nodes.now widths.now }
     requires alike { AreAlike (width_at nodes.now) (length nodes.now) a.0 b.0 }
-    ensures { IfOk result (TellsDifference nodes.now (width_at nodes.now a.0) a.0 b.0) }
+    ensures { IfOk result (λ told. told ≡ difference_of_forms nodes.now (width_at nodes.now a.0) a.0 b.0) }
 {
     let w = widths[a.0 as usize];
     let mut pending = Vec::new(alloc);

@@ -9,10 +9,10 @@ use Rattle.node_values.specs.declared.node.Node.{Node}
 use Rattle.node_values.specs.declared.node.Node.TheVariants.{Const, Reg, Entry, VecByte, Start, Probe, Add, Sub, Mul, And, Or, Xor, Not, Shl, Shr, Sar, Cat, Cut, Sx, Eq, Ult, Slt, If}
 use Rattle.node_values.specs.Sheets.{node_at}
 use Rattle.terms.specs.Kept.{AreDistinct}
-use Rattle.terms.specs.Made.{is_same}
+use Rattle.terms.specs.Made.{is_same_node}
 
 -- a node is the same as itself
-pub same_as_itself : (x : Node) → is_same x x ≡ true
+pub same_as_itself : (x : Node) → is_same_node x x ≡ true
 same_as_itself (Const a b) = search rules
 same_as_itself (Reg a b) = search rules
 same_as_itself (Entry a) = search rules
@@ -37,7 +37,7 @@ same_as_itself (Ult a b) = search rules
 same_as_itself (Slt a b) = search rules
 same_as_itself (If c a b) = search rules
 
-module _ (ns : List Node) (n : Node) (absent : list_any (is_same n) ns ≡ false) where
+module _ (ns : List Node) (n : Node) (absent : list_any (is_same_node n) ns ≡ false) where
   older : (i : ℕ) → i < length ns → node_at (ns ++ n ∷ []) i ≡ node_at ns i
   older i b = get_or-append ns (n ∷ []) (Const 0 0) i b
 
@@ -46,7 +46,7 @@ module _ (ns : List Node) (n : Node) (absent : list_any (is_same n) ns ≡ false
 
   not_there : (i : ℕ) → i < length ns → node_at ns i ≡ n → ⊥
   not_there i b e =
-      let there : list_any (is_same n) ns ≡ true = list_any_at (is_same n) ns i (Const 0 0) b (ap (is_same n) e ∙ same_as_itself n) in
+      let there : list_any (is_same_node n) ns ≡ true = list_any_at (is_same_node n) ns i (Const 0 0) b (ap (is_same_node n) e ∙ same_as_itself n) in
       true≢false (sym there ∙ absent)
 
   pub distinct_push : AreDistinct ns → AreDistinct (ns ++ n ∷ [])

@@ -1,6 +1,7 @@
 pub mod Built
 pub mod CutLaws
 pub mod DistinctNodes
+pub mod EqualityRule
 pub mod GrowingNodes
 pub mod MadeLaws
 pub mod RuleLaws

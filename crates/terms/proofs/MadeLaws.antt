@@ -12,7 +12,7 @@ use Rattle.node_values.specs.Sheets.{AreWidths, Extends, IsSheet, node_at, value
 use Rattle.node_values.proofs.SheetLaws.{IsSheet-push, value_at-is, value_at-push, width_at-is, width_at-push}
 use Rattle.terms.specs.declared.rules.Reduced.{Reduced}
 use Rattle.terms.specs.declared.rules.Reduced.TheVariants.{Old, New}
-use Rattle.terms.specs.Made.{Made, is_same, made, number_of, placed}
+use Rattle.terms.specs.Made.{Made, is_same_node, made, node_number, placed}
 use Rattle.std.specs.Prelude.{slice_index}
 use Rattle.node_forms.proofs.WidthLists.{same_widths}
 use Rattle.terms.specs.Rules.{by_rules, folded, is_folded, reduced, unfolded}
@@ -20,7 +20,7 @@ use Rattle.terms.specs.Sheet.{Stands}
 use Rattle.terms.proofs.RuleLaws.{reduced_stands}
 
 -- two nodes that the test finds the same are equal
-pub same_node : (x y : Node) → is_same x y ≡ true → x ≡ y
+pub same_node : (x y : Node) → is_same_node x y ≡ true → x ≡ y
 same_node (Const a b) y h = search rules
 same_node (Reg a b) y h = search rules
 same_node (Entry a) y h = search rules
@@ -83,21 +83,21 @@ module _ (ns : List Node) (sheet : IsSheet ns) (n : Node) where
 
   placed_built : (r : Reduced) → Stands ns n r → IsBuilt ns n (placed ns r)
   placed_built (Old a) h = record { extends = ([], nothing_more); sheet = sheet; inside = h.0; width = h.1; value = h.2 }
-  placed_built (New m) h = elim (cases_Bool (list_any (is_same m) ns)) [
+  placed_built (New m) h = elim (cases_Bool (list_any (is_same_node m) ns)) [
     | inl there ↦
-        let at : ℕ = number_of ns m in
-        let inside : number_of ns m < length ns = found_inside (is_same m) ns there in
-        let is : m ≡ node_at ns (number_of ns m) = same_node m (node_at ns (number_of ns m)) (passes_at_first (is_same m) ns (Const 0 0) inside) in
+        let at : ℕ = node_number ns m in
+        let inside : node_number ns m < length ns = found_inside (is_same_node m) ns there in
+        let is : m ≡ node_at ns (node_number ns m) = same_node m (node_at ns (node_number ns m)) (passes_at_first (is_same_node m) ns (Const 0 0) inside) in
         rw there
         (record {
           extends = ([], nothing_more);
           sheet = sheet;
           inside = inside;
-          width = width_at-is ns sheet (number_of ns m) inside ∙ ap (node_width (width_at ns)) (sym is) ∙ h.1;
-          value = λ e. value_at-is ns sheet e (number_of ns m) inside ∙ ap (node_value e (width_at ns) (value_at e ns)) (sym is) ∙ h.2 e;
+          width = width_at-is ns sheet (node_number ns m) inside ∙ ap (node_width (width_at ns)) (sym is) ∙ h.1;
+          value = λ e. value_at-is ns sheet e (node_number ns m) inside ∙ ap (node_value e (width_at ns) (value_at e ns)) (sym is) ∙ h.2 e;
         })
     | inr new ↦
-        let last : number_of ns m ≡ length ns = not_found (is_same m) ns new in
+        let last : node_number ns m ≡ length ns = not_found (is_same_node m) ns new in
         rw (new, last)
         (record {
           extends = (m ∷ [], refl);

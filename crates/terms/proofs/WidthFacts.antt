@@ -19,8 +19,8 @@ use Rattle.std.proofs.lemmas.Nat.{pow_pos}
 use Rattle.node_forms.proofs.WidthLists.{node_by_widths, same_widths, word_widths}
 use Rattle.std.proofs.Math.ListN.{get_or-append}
 use Rattle.std.proofs.Math.Seq.{get_or-append_seam}
-use Rattle.terms.specs.Kept.{IsKept}
-use Rattle.terms.specs.Made.{is_same}
+use Rattle.terms.specs.Kept.{IsKeptSheet}
+use Rattle.terms.specs.Made.{is_same_node}
 use Rattle.terms.specs.Sheet.{IsWidthList}
 
 module _ (ns : List Node) (widths : List ℕ) (list : IsWidthList ns widths) where
@@ -88,8 +88,8 @@ module _ (ns : List Node) (widths : List ℕ) (list : IsWidthList ns widths) whe
   list_ranged i b = list_words ns widths list i (omega (arith, list.1.0, b))
 
 -- one more node and its width
-pub kept_push : (ns : List Node) (bits : List ℕ) (n : Node) (b : ℕ) → IsKept ns bits → IsNode (width_at ns) (length ns) n → length ns < 65536
-    → b ≡ node_width (width_at ns) n → list_any (is_same n) ns ≡ false → IsKept (ns ++ n ∷ []) (bits ++ b ∷ [])
+pub kept_push : (ns : List Node) (bits : List ℕ) (n : Node) (b : ℕ) → IsKeptSheet ns bits → IsNode (width_at ns) (length ns) n → length ns < 65536
+    → b ≡ node_width (width_at ns) n → list_any (is_same_node n) ns ≡ false → IsKeptSheet (ns ++ n ∷ []) (bits ++ b ∷ [])
 kept_push ns bits n b kept node room same absent = record {
   sheet = IsSheet-push ns kept.sheet n node;
   distinct = distinct_push ns n absent kept.distinct;

@@ -8,7 +8,7 @@ abbrev pub AreDistinct : List Node → Type 0
 AreDistinct ns = (i j : ℕ) → i < length ns → j < length ns → node_at ns i ≡ node_at ns j → i ≡ j
 
 -- what the code keeps of a sheet: its nodes, at most 65,536, each once, and their widths
-pub record IsKept (ns : List Node) (bits : List ℕ) : Type 0 where
+pub record IsKeptSheet (ns : List Node) (bits : List ℕ) : Type 0 where
   pub sheet : IsSheet ns
   pub distinct : AreDistinct ns
   pub widths : AreWidths ns bits

@@ -10,8 +10,8 @@ use Rattle.terms.specs.declared.rules.Reduced.TheVariants.{Old, New}
 use Rattle.terms.specs.Rules.{reduced}
 
 -- the test of two nodes
-abbrev pub is_same : Node → Node → Bool
-is_same = (eq-value).it
+abbrev pub is_same_node : Node → Node → Bool
+is_same_node = (eq-value).it
 
 -- a sheet, and the number of a node in it
 pub record Made : Type 0 where
@@ -20,16 +20,16 @@ pub record Made : Type 0 where
 
 -- the node stays where it stands, or goes last
 abbrev pub with_node : List Node → Node → List Node
-with_node ns n = if list_any (is_same n) ns then ns else ns ++ n ∷ []
+with_node ns n = if list_any (is_same_node n) ns then ns else ns ++ n ∷ []
 
 -- the number of a node: where it stands, or the next one
-abbrev pub number_of : List Node → Node → ℕ
-number_of ns n = position_or_len (is_same n) ns
+abbrev pub node_number : List Node → Node → ℕ
+node_number ns n = position_or_len (is_same_node n) ns
 
 -- a sheet with a node that is there, or with a new one
 abbrev pub placed : List Node → Reduced → Made
 placed ns (Old a) = record { nodes = ns; id = a }
-placed ns (New n) = record { nodes = with_node ns n; id = record { 0 = number_of ns n } }
+placed ns (New n) = record { nodes = with_node ns n; id = record { 0 = node_number ns n } }
 
 -- the sheet after a node is built by the rules, and its number
 unfoldable pub made : List Node → Node → Made

@@ -7,7 +7,7 @@ ghost use Rattle.node_values.specs.Environments.{environment_of};
 ghost use Rattle.node_values.specs.Nodes.{IsNode, node_width};
 ghost use Rattle.node_values.specs.Sheets.{Extends, IsSheet, node_at, value_at, width_at};
 ghost use Rattle.node_values.specs.Values.{Environment, node_value};
-ghost use Rattle.terms.specs.Kept.{AreDistinct, IsKept};
+ghost use Rattle.terms.specs.Kept.{AreDistinct, IsKeptSheet};
 ghost use Rattle.terms.specs.Sheet.{IsWidthList};
 ghost use Rattle.terms.specs.Made.{GrowsInRoom, IsEquality, made, placed};
 ghost use Rattle.terms.specs.declared.rules.Reduced.TheVariants as reductions;
@@ -74,13 +74,13 @@ pub struct Sheet {
 impl Model for Sheet {
     ghost use Rattle.std.specs.Prelude.{List};
     ghost use Rattle.node_values.specs.declared.node.Node.{Node};
-    ghost use Rattle.terms.specs.Kept.{IsKept};
+    ghost use Rattle.terms.specs.Kept.{IsKeptSheet};
 
     ghost Value = { List Node };
 
     ghost view = { λ s. s.nodes.keys };
 
-    ghost invariant = { λ s. IsKept s.nodes.keys s.widths.items };
+    ghost invariant = { λ s. IsKeptSheet s.nodes.keys s.widths.items };
 }
 
 impl Sheet {
@@ -203,10 +203,10 @@ fn build_in(
     widths: &mut Vec<u32>,
     node: Node,
 ) -> Result<NodeId, SheetFull>
-    requires kept { IsKept nodes.old.keys widths.old.items }
+    requires kept { IsKeptSheet nodes.old.keys widths.old.items }
     requires node { IsNode (width_at nodes.old.keys) (length nodes.old.keys) node }
     ensures made { IfOk result (λ id. made nodes.old.keys node ≡ record { nodes = nodes.new.keys; id = id }) }
-    ensures kept { IsKept nodes.new.keys widths.new.items }
+    ensures kept { IsKeptSheet nodes.new.keys widths.new.items }
     ensures full { IsErrOf result SheetFull.Full → 65536 < length (made nodes.old.keys node).nodes }
     ensures memory { IsErrOf result SheetFull.Memory
         → IsEquality node ⊎ GrowsInRoom nodes.old.keys (made nodes.old.keys node).nodes }
@@ -221,10 +221,10 @@ fn build_in(
 
 /// The number of a node, which goes last where the list does not have it.
 fn place(nodes: &mut IndexSet<Node>, widths: &mut Vec<u32>, node: Node) -> Result<NodeId, SheetFull>
-    requires kept { IsKept nodes.old.keys widths.old.items }
+    requires kept { IsKeptSheet nodes.old.keys widths.old.items }
     requires node { IsNode (width_at nodes.old.keys) (length nodes.old.keys) node }
     ensures placed { IfOk result (λ id. placed nodes.old.keys (reductions.New node) ≡ record { nodes = nodes.new.keys; id = id }) }
-    ensures kept { IsKept nodes.new.keys widths.new.items }
+    ensures kept { IsKeptSheet nodes.new.keys widths.new.items }
     ensures full { IsErrOf result SheetFull.Full → 65536 < length (placed nodes.old.keys (reductions.New node)).nodes }
     ensures memory { IsErrOf result SheetFull.Memory
         → GrowsInRoom nodes.old.keys (placed nodes.old.keys (reductions.New node)).nodes }

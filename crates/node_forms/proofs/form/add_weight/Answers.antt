@@ -1,8 +1,7 @@
-use Rattle.std.proofs.Common.{◌≡◌, ℕ, ◌<◌, ◌≤◌, ◌+◌, ◌^◌, List, [], ◌∷◌, ◌++◌, take, drop, length, get_or, refl, sym, ◌∙◌, ap, subst, arith, slice_set}
-use Rattle.std.proofs.lemmas.Bool.{true≢false}
+use Rattle.std.proofs.Common.{◌≡◌, ℕ, ◌<◌, ◌^◌, List, [], ◌∷◌, ◌++◌, take, drop, length, sym, ◌∙◌, ap, arith, slice_set}
 use Rattle.node_values.specs.declared.node.NodeId.{NodeId}
 use Rattle.node_forms.specs.Sums.{with_weight}
-use Rattle.node_forms.proofs.Weights.{all_at, with_weight-before, with_weight-last, with_weight-passed, with_weight-same}
+use Rattle.node_forms.proofs.Weights.{all_at, with_weight-before, with_weight-last, with_weight-same}
 use Rattle.node_forms.proofs.form.add_weight.Goals as goal
 
 pub scalar-requires : goal.scalar-requires

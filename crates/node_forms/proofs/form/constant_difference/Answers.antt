@@ -1,5 +1,5 @@
-use Rattle.std.proofs.Common.{◌≡◌, ℕ, ◌+◌, ◌*◌, ◌<◌, ◌≤◌, ◌^◌, List, length, [], ◌∷◌, ◌++◌, refl, sym, ◌∙◌, ap, subst, arith}
-use Rattle.std.specs.Prelude.{slice_index, Some, None}
+use Rattle.std.proofs.Common.{◌≡◌, ℕ, ◌+◌, ◌*◌, ◌<◌, ◌≤◌, ◌^◌, List, length, [], ◌∷◌, ◌++◌, sym, ◌∙◌, ap, subst, arith}
+use Rattle.std.specs.Prelude.{slice_index, Option}
 use Rattle.std.specs.List.{AllByRecursion}
 use Rattle.std.proofs.lemmas.Bool.{true≢false}
 use Rattle.node_values.specs.declared.node.NodeId.{NodeId}
@@ -8,7 +8,7 @@ use Rattle.node_values.proofs.SheetLaws.{width_ranged}
 use Rattle.insn_semantics.specs.Words.{minus}
 use Rattle.insn_semantics.proofs.WordLaws.{power_grows}
 use Rattle.node_forms.specs.Gathering.{AreParts}
-use Rattle.node_forms.specs.Listed.{TellsDifference}
+use Rattle.node_forms.specs.Listed.{difference_of_forms}
 use Rattle.node_forms.specs.Sums.{IsLinear, IsWide, SameWord, weighted_sum, with_weight}
 use Rattle.node_forms.proofs.Gathered.{tells_none, tells_some}
 use Rattle.node_forms.proofs.Residues.{same_number}
@@ -77,14 +77,14 @@ returns c =
     c.in_ok-add_weight.ensures ∙ (λ i. with_weight w c.args.b (c.scalar.ensures.value i) (items i)) in
     let sum : (k : ℕ) (f : ℕ → ℕ) → IsLinear c.args.nodes.now w k f → SameWord w (weighted_sum f c.in_ok-form.form.atoms + k * c.in_ok-form.form.c) (weighted_sum f (with_weight w c.args.b (minus w 0 1) ((c.args.a, 1) ∷ []))) =
     λ k f is. c.in_ok-form.ensures.sum k f is ∙ same_number w _ _ (ap (weighted_sum f) all) in
-    subst (λ n. TellsDifference c.args.nodes.now n c.args.a.0 c.args.b.0 c.if-is_empty.result) e
+    subst (λ n. c.if-is_empty.result ≡ difference_of_forms c.args.nodes.now n c.args.a.0 c.args.b.0) e
     (elim c.if-is_empty.branch [
       | then-is_empty t ↦
-          subst (TellsDifference c.args.nodes.now w c.args.a.0 c.args.b.0) (sym t.result-is)
+          subst (λ (told : Option ℕ). told ≡ difference_of_forms c.args.nodes.now w c.args.a.0 c.args.b.0) (sym t.result-is)
           (tells_some c.args.nodes.now c.requires.sheet w some c.args.a c.args.b c.requires.alike.0 c.requires.alike.1 c.in_ok-form.form.atoms c.in_ok-form.form.c
           c.in_ok-form.ensures.falling c.in_ok-form.ensures.atoms c.in_ok-form.ensures.constant sum (c.is_empty.ensures.0 t.if-is_empty.true))
       | else-is_empty f ↦
-          subst (TellsDifference c.args.nodes.now w c.args.a.0 c.args.b.0) (sym f.result-is)
+          subst (λ (told : Option ℕ). told ≡ difference_of_forms c.args.nodes.now w c.args.a.0 c.args.b.0) (sym f.result-is)
           (tells_none c.args.nodes.now c.requires.sheet w some c.args.a c.args.b c.requires.alike.0 c.requires.alike.1 c.in_ok-form.form.atoms c.in_ok-form.form.c
           c.in_ok-form.ensures.falling c.in_ok-form.ensures.atoms c.in_ok-form.ensures.constant sum
           (λ none. true≢false (sym (c.is_empty.ensures.1 none) ∙ f.if-is_empty.false)))

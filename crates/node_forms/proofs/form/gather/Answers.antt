@@ -1,11 +1,10 @@
-use Rattle.std.proofs.Common.{◌≡◌, ℕ, ◌+◌, ◌*◌, ◌<◌, ◌≤◌, ◌^◌, List, take, ◌-◌, [], ◌∷◌, ◌++◌, refl, sym, ◌∙◌, ap, subst, arith}
-use Rattle.std.specs.List.{AllByRecursion}
+use Rattle.std.proofs.Common.{◌≡◌, ℕ, ◌+◌, ◌*◌, ◌<◌, ◌≤◌, List, take, ◌-◌, [], ◌++◌, sym, ◌∙◌, ap, subst, arith}
 use Rattle.std.specs.Prelude.{max, slice_index}
 use Rattle.node_values.specs.declared.node.NodeId.{NodeId}
 use Rattle.node_values.specs.Sheets.{node_at, width_at}
 use Rattle.node_forms.specs.Gathering.{Gathering, IsGathering, replaced}
 use Rattle.node_forms.specs.Linearity.{linearity}
-use Rattle.node_forms.specs.Sums.{IsLinear, SameWord, top_of, weighted_sum}
+use Rattle.node_forms.specs.Sums.{top_of, weighted_sum}
 use Rattle.node_forms.proofs.Residues.{same_number}
 use Rattle.node_forms.proofs.Replacing as replacing
 use Rattle.node_forms.proofs.Weights.{top_of-append}

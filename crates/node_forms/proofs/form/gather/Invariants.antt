@@ -1,4 +1,3 @@
-use Rattle.std.proofs.Common.{◌≡◌}
 use Rattle.node_forms.specs.Gathering.{IsGathering}
 use Rattle.node_forms.specs.Sums.{top_of}
 use Rattle.node_forms.proofs.form.gather.Given as goal

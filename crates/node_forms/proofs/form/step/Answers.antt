@@ -1,4 +1,4 @@
-use Rattle.std.proofs.Common.{◌≡◌, ℕ, ◌<◌, ◌^◌, List, sym, subst}
+use Rattle.std.proofs.Common.{ℕ, ◌<◌, ◌^◌, List, sym, subst}
 use Rattle.std.specs.List.{AllByRecursion}
 use Rattle.node_values.specs.declared.node.NodeId.{NodeId}
 use Rattle.node_forms.proofs.Weights.{with_weight-words}

@@ -5,8 +5,8 @@ use Rattle.node_values.specs.declared.node.Node.{Node}
 use Rattle.node_values.specs.Nodes.{AreWordWidths, node_width}
 use Rattle.node_values.specs.Sheets.{width_at}
 use Rattle.node_forms.proofs.WidthLists.{same_widths, word_widths}
-use Rattle.terms.specs.Kept.{IsKept}
-use Rattle.terms.specs.Made.{is_same}
+use Rattle.terms.specs.Kept.{IsKeptSheet}
+use Rattle.terms.specs.Made.{is_same_node}
 use Rattle.terms.proofs.MadeLaws.{not_found}
 use Rattle.terms.proofs.WidthFacts.{kept_push}
 use Rattle.terms.proofs.sheet.place.Goals as goal
@@ -17,13 +17,13 @@ width-requires-clause-widths c =
 
 pub returns-in-Ok-clause-placed : goal.returns-in-Ok-clause-placed
 returns-in-Ok-clause-placed c =
-    let absent : list_any (is_same c.args.node) c.args.nodes.now.keys ≡ false = sym c.in_default.ensures.found in
-    let last = not_found (is_same c.args.node) c.args.nodes.now.keys absent in
+    let absent : list_any (is_same_node c.args.node) c.args.nodes.now.keys ≡ false = sym c.in_default.ensures.found in
+    let last = not_found (is_same_node c.args.node) c.args.nodes.now.keys absent in
     λ i. record { nodes = sym c.in-Ok.ensures.keys i; id = record { 0 = (last ∙ sym c.len-at.ensures.len) i } }
 
 pub returns-in-Ok-clause-kept : goal.returns-in-Ok-clause-kept
 returns-in-Ok-clause-kept c =
-    let absent : list_any (is_same c.args.node) c.args.nodes.now.keys ≡ false = sym c.in_default.ensures.found in
+    let absent : list_any (is_same_node c.args.node) c.args.nodes.now.keys ≡ false = sym c.in_default.ensures.found in
     let keys : c.insert.new.self.keys ≡ c.args.nodes.now.keys ++ c.args.node ∷ [] =
     c.in-Ok.ensures.keys ∙ ap (λ t. if t then c.args.nodes.now.keys else c.args.nodes.now.keys ++ c.args.node ∷ []) absent in
     let bits : c.width.result ≡ node_width (width_at c.args.nodes.now.keys) c.args.node =
@@ -32,5 +32,5 @@ returns-in-Ok-clause-kept c =
     let room : length c.args.nodes.now.keys < 65536 =
     let most = c.requires.kept.room in let not_full = c.if-at-eq65536.false in omega (arith, c.len-at.ensures.len) in
     let pushed = kept_push c.args.nodes.now.keys c.args.widths.now.items c.args.node c.width.result c.requires.kept c.requires.node room bits absent in
-    let P : List Node → Type 0 = λ ns. IsKept ns c.push.new.self.items in
-    subst P (sym keys) (subst (IsKept (c.args.nodes.now.keys ++ c.args.node ∷ [])) (sym c.in_ok-push.ensures.items) pushed)
+    let P : List Node → Type 0 = λ ns. IsKeptSheet ns c.push.new.self.items in
+    subst P (sym keys) (subst (IsKeptSheet (c.args.nodes.now.keys ++ c.args.node ∷ [])) (sym c.in_ok-push.ensures.items) pushed)
