@@ -3,7 +3,7 @@ use Rattle.std.proofs.Common.{◌≡◌, ℕ, zero, suc, ◌+◌, ◌*◌, ◌<�
 use Rattle.std.specs.List.{AllByRecursion, AllZip, remove}
 use Rattle.node_forms.specs.Sums.{SameWord}
 use Rattle.node_forms.proofs.Residues.{same_add, same_number, same_times}
-use Rattle.linear_forms.specs.Rows.{IsCleared, mix, word}
+use Rattle.linear_forms.specs.MatrixRows.{IsCleared, mix, word}
 use Rattle.linear_forms.proofs.Powers.{same_narrow}
 
 -- weights without number i

@@ -6,7 +6,7 @@ use Rattle.node_forms.specs.Sums.{SameWord}
 use Rattle.node_forms.proofs.Residues.{same_add, same_drop, same_number, same_times}
 use Rattle.linear_forms.specs.declared.pivot.Pivot.{Pivot}
 use Rattle.linear_forms.specs.Pivots.{CanBeCleared, IsPivot}
-use Rattle.linear_forms.specs.Rows.{AddsUp, IsCleared, IsEven, IsMultiple, IsReduced, Makes, mix, word}
+use Rattle.linear_forms.specs.MatrixRows.{AddsUp, IsCleared, IsEven, IsMultiple, IsReduced, Makes, mix, word}
 use Rattle.linear_forms.proofs.Mixes.{cleared_mix, cleared_zero, mix-remove, mix_sum, mix_zero, without}
 use Rattle.linear_forms.proofs.Powers.{even_multiple, multiple_is, of_zero, same_narrow, zero_of}
 

@@ -9,7 +9,7 @@ use Rattle.node_forms.specs.Sums.{SameWord}
 use Rattle.node_forms.proofs.Residues.{same_add, same_number, same_times}
 use Rattle.linear_forms.specs.Combinations.{IsCombination, weighted}
 use Rattle.linear_forms.specs.Places.{HasAtoms, IsAmong, IsRowOf, IsUnit, word_at}
-use Rattle.linear_forms.specs.Rows.{AddsUp, Makes, mix, word}
+use Rattle.linear_forms.specs.MatrixRows.{AddsUp, Makes, mix, word}
 use Rattle.linear_forms.specs.declared.places.Place.{Place}
 use Rattle.linear_forms.specs.declared.places.Place.TheVariants.{Constant}
 use Rattle.linear_forms.proofs.WeightedSums.{Agrees, agrees_at, combination_of}

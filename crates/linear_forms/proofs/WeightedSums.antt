@@ -7,33 +7,33 @@ use Rattle.node_forms.specs.Sums.{SameWord, listed_coefficient}
 use Rattle.node_forms.proofs.Residues.{same_number}
 use Rattle.node_values.specs.declared.node.NodeId.{NodeId}
 use Rattle.linear_forms.specs.Combinations.{IsCombination, coefficient, weighted}
-use Rattle.linear_forms.specs.Places.{HasAtoms, IsAmong, is_same, word_at}
+use Rattle.linear_forms.specs.Places.{HasAtoms, IsAmong, is_same_place, word_at}
 use Rattle.linear_forms.specs.declared.places.Place.{Place}
 use Rattle.linear_forms.specs.declared.places.Place.TheVariants.{Atom, Constant}
 use Rattle.linear_forms.proofs.Powers.{same_narrow}
 
 -- two places that the test finds the same are equal
-same_place : (x y : Place) → is_same x y ≡ true → x ≡ y
+same_place : (x y : Place) → is_same_place x y ≡ true → x ≡ y
 same_place (Atom a) y h = search rules
 same_place Constant y h = search rules
 
 -- what holds at all places holds at each that is among them
 pub all_among : (P : Place → Type 0) (places : List Place) → AllByRecursion P places → (place : Place) → IsAmong places place → P place
 all_among P [] h place among = cc
-all_among P (x ∷ xs) h place among = elim (cases_Bool (is_same place x)) [
+all_among P (x ∷ xs) h place among = elim (cases_Bool (is_same_place place x)) [
   | inl same ↦ subst P (sym (same_place place x same)) h.0
   | inr other ↦ all_among P xs h.1 place (rw other at among)
 ]
 
 -- an atom that is not among the places of a form has no coefficient
 not_listed : (places : List Place) (atoms : List (NodeId × ℕ)) (a : ℕ) → AllByRecursion (λ p. IsAmong places (Atom p.0)) atoms
-    → list_any (is_same (Atom (record { 0 = a }))) places ≡ false → listed_coefficient atoms a ≡ 0
+    → list_any (is_same_place (Atom (record { 0 = a }))) places ≡ false → listed_coefficient atoms a ≡ 0
 not_listed places [] a h none = refl
 not_listed places (p ∷ ps) a h none = elim (cases_Bool (a == p.0.0)) [
   | inl same ↦
       let number : a ≡ p.0.0 = eqb-true a p.0.0 same in
-      let here : list_any (is_same (Atom p.0)) places ≡ true = h.0 in
-      let P : ℕ → Type 0 = λ n. list_any (is_same (Atom (record { 0 = n }))) places ≡ true in
+      let here : list_any (is_same_place (Atom p.0)) places ≡ true = h.0 in
+      let P : ℕ → Type 0 = λ n. list_any (is_same_place (Atom (record { 0 = n }))) places ≡ true in
       absurd (true≢false (sym (subst P (sym number) here) ∙ none))
   | inr other ↦ rw other (not_listed places ps a h.1 none)
 ]
@@ -59,7 +59,7 @@ module _ (w : ℕ) (target : Form) (parts : List (ℕ × Form)) where
   pub combination_of : (places : List Place) → IsAmong places Constant → HasAtoms places target → AllByRecursion (λ p. HasAtoms places p.1) parts
       → AllByRecursion Agrees places → IsCombination w target parts
   combination_of places one own others h = record {
-    coefficients = λ a. elim (cases_Bool (list_any (is_same (Atom (record { 0 = a }))) places)) [
+    coefficients = λ a. elim (cases_Bool (list_any (is_same_place (Atom (record { 0 = a }))) places)) [
       | inl among ↦ all_among Agrees places h (Atom (record { 0 = a })) among
       | inr none ↦
           same_number w (weighted (coefficient a) parts) (coefficient a target)

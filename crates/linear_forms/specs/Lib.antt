@@ -1,4 +1,4 @@
 pub mod Combinations
 pub mod Places
-pub mod Rows
+pub mod MatrixRows
 pub mod Pivots

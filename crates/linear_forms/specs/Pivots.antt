@@ -2,7 +2,7 @@
 use Rattle.std.specs.Prelude.{◌≡◌, ℕ, ◌*◌, ◌/◌, ◌%◌, ◌^◌, ◌<◌, List, length}
 use Rattle.node_forms.specs.Sums.{SameWord}
 use Rattle.linear_forms.specs.declared.pivot.Pivot.{Pivot}
-use Rattle.linear_forms.specs.Rows.{word}
+use Rattle.linear_forms.specs.MatrixRows.{word}
 
 -- the word at the place is 2^power times an odd number, whose inverse is kept
 pub record IsPivot (p : Pivot) : Type 0 where

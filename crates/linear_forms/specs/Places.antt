@@ -6,7 +6,7 @@ use Rattle.linear_forms.specs.contracts.places.PlacePartialEq.TheImpl.{eq-value}
 use Rattle.linear_forms.specs.declared.places.Place.{Place}
 use Rattle.linear_forms.specs.declared.places.Place.TheVariants.{Atom, Constant}
 use Rattle.linear_forms.specs.Combinations.{coefficient, constant}
-use Rattle.linear_forms.specs.Rows.{word}
+use Rattle.linear_forms.specs.MatrixRows.{word}
 
 -- the word of a form at a place
 abbrev pub word_at : Place → Form → ℕ
@@ -14,12 +14,12 @@ word_at (Atom a) form = coefficient a.0 form
 word_at Constant form = constant form
 
 -- the test of two places
-abbrev pub is_same : Place → Place → Bool
-is_same = (eq-value).it
+abbrev pub is_same_place : Place → Place → Bool
+is_same_place = (eq-value).it
 
 -- a place is among these
 abbrev pub IsAmong : List Place → Place → Type 0
-IsAmong places place = list_any (is_same place) places ≡ true
+IsAmong places place = list_any (is_same_place place) places ≡ true
 
 -- the atoms of a form are among these places
 abbrev pub HasAtoms : List Place → Form → Type 0

@@ -1,10 +1,10 @@
 //! Elimination modulo 2^w by pivots with the least power of two.
 ghost use Rattle.std.specs.Prelude.{◌≡◌, ℕ, ◌+◌, ◌%◌, ◌^◌, ◌<◌, ◌≤◌, [], length, IfSome, IfNone, MatchBool};
 ghost use Rattle.std.specs.List.{AllByRecursion};
-ghost use Rattle.linear_forms.specs.Rows.{AddsUp, IsMultiple, Makes, word};
+ghost use Rattle.linear_forms.specs.MatrixRows.{AddsUp, IsMultiple, Makes, word};
 
+use crate::matrix_row::MatrixRow;
 use crate::pivot::{Pivot, find_pivot};
-use crate::row::Row;
 use scalar_ops::low_bits;
 
 /// What is left of the target, where weights of the rows make it: behind its first `n` words stand the
@@ -13,7 +13,12 @@ use scalar_ops::low_bits;
 /// In the same way each row has, behind its first `n` words, weights of all rows with which it adds up to
 /// nothing. Of all words that are left the pivot has the least power of two as a factor, so it divides
 /// them all, and the rows without its own have a word at its place only as a multiple of it.
-pub fn eliminate(w: u32, n: usize, mut rows: Vec<Row>, mut target: Row) -> Option<Row>
+pub fn eliminate(
+    w: u32,
+    n: usize,
+    mut rows: Vec<MatrixRow>,
+    mut target: MatrixRow,
+) -> Option<MatrixRow>
     requires width { (0 < w) × (w ≤ 64) }
     requires places { n ≤ length target }
     requires long { AllByRecursion (λ row. length row ≡ length target) rows.items }

@@ -9,9 +9,9 @@ mod combining;
 mod elimination;
 mod inverse;
 pub mod laws;
+mod matrix_row;
 mod pivot;
 mod places;
-mod row;
 mod solving;
 
 pub use combining::combines;

@@ -1,7 +1,7 @@
 //! Rows of words.
 ghost use Rattle.std.specs.Prelude.{◌≡◌, ℕ, ◌+◌, ◌*◌, ◌<◌, ◌≤◌, length, MatchOption};
 ghost use Rattle.node_forms.specs.Sums.{SameWord};
-ghost use Rattle.linear_forms.specs.Rows.{IsEven, IsOddAt, word};
+ghost use Rattle.linear_forms.specs.MatrixRows.{IsEven, IsOddAt, word};
 
 use std::marker::Model;
 
@@ -9,11 +9,11 @@ use std::marker::Model;
 ///
 /// Contracts see it as the list.
 #[derive(Debug, Drop)]
-pub struct Row {
+pub struct MatrixRow {
     words: Vec<u64>,
 }
 
-impl Model for Row {
+impl Model for MatrixRow {
     ghost use Rattle.std.specs.Prelude.{List, ℕ};
 
     ghost Value = { List ℕ };
@@ -21,12 +21,12 @@ impl Model for Row {
     ghost view = { λ r. r.words.items };
 }
 
-impl Row {
+impl MatrixRow {
     /// The row of these words.
-    pub fn new(words: Vec<u64>) -> Row
+    pub fn new(words: Vec<u64>) -> MatrixRow
         ensures { result ≡ words.items }
     {
-        Row { words }
+        MatrixRow { words }
     }
 
     /// The words.
@@ -37,7 +37,7 @@ impl Row {
     }
 
     /// Adds a multiple of a row, modulo 2^64.
-    pub fn add(&mut self, times: u64, row: &Row)
+    pub fn add(&mut self, times: u64, row: &MatrixRow)
         requires { length row.now ≡ length self.old }
         ensures length { length self.new ≡ length self.old }
         ensures sum { (j : ℕ) → SameWord 64 (word j self.new) (word j self.old + times * word j row.now) }

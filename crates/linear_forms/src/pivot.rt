@@ -2,15 +2,15 @@
 ghost use Rattle.std.specs.Prelude.{◌≡◌, ℕ, ◌+◌, ◌*◌, ◌/◌, ◌%◌, ◌^◌, ◌<◌, ◌≤◌, length, slice_index_or, [], MatchOption};
 ghost use Rattle.std.specs.List.{AllByRecursion, AllZip};
 ghost use Rattle.linear_forms.specs.Pivots.{CanBeCleared, IsPivot};
-ghost use Rattle.linear_forms.specs.Rows.{IsCleared, IsEven, IsOddAt, word};
+ghost use Rattle.linear_forms.specs.MatrixRows.{IsCleared, IsEven, IsOddAt, word};
 
 use crate::inverse::inverse;
-use crate::row::{Row, odd_place};
+use crate::matrix_row::{MatrixRow, odd_place};
 
 /// A row, and a place at which its word is 2^power times an odd number, with the inverse of that number.
 #[derive(Debug, Drop)]
 pub struct Pivot {
-    pub row: Row,
+    pub row: MatrixRow,
     pub place: usize,
     pub power: u32,
     pub inverse: u64,
@@ -18,7 +18,7 @@ pub struct Pivot {
 
 impl Pivot {
     /// The pivot at a place of a row.
-    pub fn new(row: Row, place: usize, power: u32) -> Pivot
+    pub fn new(row: MatrixRow, place: usize, power: u32) -> Pivot
         requires power { power < 64 }
         requires place { place < length row }
         requires multiple { word place row % 2 ^ power ≡ 0 }
@@ -38,7 +38,7 @@ impl Pivot {
     }
 
     /// Adds the multiple of the pivot's row that makes the word at its place 0.
-    pub fn clear(&self, row: &mut Row)
+    pub fn clear(&self, row: &mut MatrixRow)
         requires pivot { IsPivot self.now }
         requires row { CanBeCleared self.now row.old }
         ensures { IsCleared self.now.row self.now.place row.old row.new }
@@ -49,7 +49,7 @@ impl Pivot {
     }
 
     /// Clears all of the rows.
-    pub fn clear_all(&self, rows: &mut [Row])
+    pub fn clear_all(&self, rows: &mut [MatrixRow])
         requires pivot { IsPivot self.now }
         requires rows { AllByRecursion (CanBeCleared self.now) rows.old }
         ensures { AllZip (IsCleared self.now.row self.now.place) rows.old rows.new }
@@ -61,7 +61,7 @@ impl Pivot {
 }
 
 /// A row and a place among the first `n` whose word has bit `power`.
-pub fn find_pivot(rows: &[Row], n: usize, power: u32) -> Option<(usize, usize)>
+pub fn find_pivot(rows: &[MatrixRow], n: usize, power: u32) -> Option<(usize, usize)>
     requires places { AllByRecursion (λ row. n ≤ length row) rows.now }
     requires power { power < 64 }
     ensures { MatchOption result (AllByRecursion (IsEven n power) rows.now)

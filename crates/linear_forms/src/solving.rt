@@ -4,11 +4,11 @@ ghost use Rattle.std.specs.List.{AllByRecursion, AllZip, zip};
 ghost use Rattle.node_forms.specs.Sums.{SameWord};
 ghost use Rattle.linear_forms.specs.Combinations.{IsAt, IsCombination};
 ghost use Rattle.linear_forms.specs.Places.{HasAtoms, IsAmong, IsRowOf, IsUnit};
-ghost use Rattle.linear_forms.specs.Rows.{word};
+ghost use Rattle.linear_forms.specs.MatrixRows.{word};
 
 use crate::elimination::eliminate;
+use crate::matrix_row::MatrixRow;
 use crate::places::{Place, add_atoms, word_of};
-use crate::row::Row;
 use indexmap::IndexSet;
 use node_forms::Form;
 use outcomes::Memory;
@@ -57,7 +57,7 @@ fn places_of(alloc: Global, target: &Form, parts: &[Form]) -> Result<IndexSet<Pl
 }
 
 /// A row for each part: its words at the places, and behind them less 1 at its own number.
-fn rows_of(alloc: Global, places: &[Place], parts: &[Form]) -> Result<Vec<Row>, Memory>
+fn rows_of(alloc: Global, places: &[Place], parts: &[Form]) -> Result<Vec<MatrixRow>, Memory>
     requires { length places.now + length parts.now < 2 ^ 64 }
     ensures count { IfOk result (λ rows. length rows.items ≡ length parts.now) }
     ensures long { IfOk result (λ rows. AllByRecursion (λ row. length row ≡ length places.now + length parts.now) rows.items) }
@@ -79,7 +79,7 @@ fn row_of(
     form: &Form,
     count: usize,
     own: usize,
-) -> Result<Row, Memory>
+) -> Result<MatrixRow, Memory>
     requires { length places.now + count < 2 ^ 64 }
     ensures length { IfOk result (λ row. length row ≡ length places.now + count) }
     ensures words { IfOk result (IsRowOf places.now form.now) }
@@ -92,7 +92,7 @@ fn row_of(
     for at in 0..count {
         words.push(if at == own { u64::MAX } else { 0 })?;
     }
-    Ok(Row::new(words))
+    Ok(MatrixRow::new(words))
 }
 
 /// The words modulo 2^w.

@@ -2,7 +2,7 @@ use Rattle.std.proofs.Common.{◌≡◌, ℕ, ◌%◌, ◌^◌, ◌<◌, ◌≤�
 use Rattle.std.specs.List.{AllByRecursion, AllZip}
 use Rattle.std.proofs.lemmas.List.{get_or_default}
 use Rattle.linear_forms.specs.Pivots.{CanBeCleared}
-use Rattle.linear_forms.specs.Rows.{IsCleared, IsEven, IsMultiple, IsReduced, word}
+use Rattle.linear_forms.specs.MatrixRows.{IsCleared, IsEven, IsMultiple, IsReduced, word}
 use Rattle.linear_forms.proofs.Reducing.{all_both, clearable, cleared, made_of, not_made, raised, started}
 use Rattle.linear_forms.proofs.Zips.{whole}
 use Rattle.linear_forms.proofs.elimination.eliminate.Goals as goal

@@ -1,5 +1,5 @@
 use Rattle.std.proofs.Common.{◌+◌, ◌-◌, ◌≤◌, length}
-use Rattle.linear_forms.specs.Rows.{IsReduced}
+use Rattle.linear_forms.specs.MatrixRows.{IsReduced}
 use Rattle.linear_forms.proofs.elimination.eliminate.Given as goal
 
 abbrev pub invariant-loop-power : goal.invariant-loop-power

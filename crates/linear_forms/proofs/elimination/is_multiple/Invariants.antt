@@ -1,4 +1,4 @@
-use Rattle.linear_forms.specs.Rows.{IsMultiple}
+use Rattle.linear_forms.specs.MatrixRows.{IsMultiple}
 use Rattle.linear_forms.proofs.elimination.is_multiple.Given as goal
 
 abbrev pub invariant-loop-place : goal.invariant-loop-place

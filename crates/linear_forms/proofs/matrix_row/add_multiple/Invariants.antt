@@ -1,7 +1,7 @@
 use Rattle.std.proofs.Common.{◌≡◌, ℕ, ◌+◌, ◌*◌, ◌<◌, ◌≤◌}
 use Rattle.node_forms.specs.Sums.{SameWord}
-use Rattle.linear_forms.specs.Rows.{word}
-use Rattle.linear_forms.proofs.row.add_multiple.Given as goal
+use Rattle.linear_forms.specs.MatrixRows.{word}
+use Rattle.linear_forms.proofs.matrix_row.add_multiple.Given as goal
 
 abbrev pub invariant-loop-at : goal.invariant-loop-at
 invariant-loop-at l = record {

@@ -2,7 +2,7 @@ use Rattle.std.proofs.Common.{◌≡◌, ℕ, ◌+◌, ◌<◌, length}
 use Rattle.std.specs.Prelude.{slice_index_or}
 use Rattle.linear_forms.specs.declared.places.Place.TheVariants.{Constant}
 use Rattle.linear_forms.specs.Places.{IsRowOf, IsUnit, word_at}
-use Rattle.linear_forms.specs.Rows.{word}
+use Rattle.linear_forms.specs.MatrixRows.{word}
 use Rattle.linear_forms.proofs.solving.row_of.Given as goal
 
 abbrev pub invariant-loop-place : goal.invariant-loop-place

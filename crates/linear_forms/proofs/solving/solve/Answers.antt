@@ -6,7 +6,7 @@ use Rattle.node_forms.specs.Sums.{SameWord}
 use Rattle.linear_forms.specs.declared.places.Place.{Place}
 use Rattle.linear_forms.specs.declared.places.Place.TheVariants.{Constant}
 use Rattle.linear_forms.specs.Places.{HasAtoms, IsAmong, IsUnit}
-use Rattle.linear_forms.specs.Rows.{AddsUp, word}
+use Rattle.linear_forms.specs.MatrixRows.{AddsUp, word}
 use Rattle.linear_forms.proofs.Systems.{all_from, base_adds_up, combination_by, makes_of, row_adds_up}
 use Rattle.linear_forms.proofs.solving.solve.Goals as goal
 

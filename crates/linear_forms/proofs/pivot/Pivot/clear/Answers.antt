@@ -1,5 +1,5 @@
 use Rattle.std.proofs.Common.{◌≡◌, ℕ, ◌+◌, ◌*◌, ◌/◌, ◌%◌, ◌^◌, ◌∙◌, subst, List}
-use Rattle.linear_forms.specs.Rows.{word}
+use Rattle.linear_forms.specs.MatrixRows.{word}
 use Rattle.linear_forms.proofs.Powers.{cleared_word}
 use Rattle.linear_forms.proofs.pivot.Pivot.clear.Goals as goal
 

@@ -1,5 +1,5 @@
 use Rattle.std.proofs.Common.{ℕ, ◌<◌, List, arith, length, subst, sym}
-use Rattle.linear_forms.specs.Rows.{IsCleared}
+use Rattle.linear_forms.specs.MatrixRows.{IsCleared}
 use Rattle.linear_forms.proofs.Zips.{zip_step}
 use Rattle.linear_forms.proofs.pivot.Pivot.clear_all.Goals as goal
 

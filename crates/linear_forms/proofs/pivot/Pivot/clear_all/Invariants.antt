@@ -1,6 +1,6 @@
 use Rattle.std.proofs.Common.{◌≡◌, take, drop}
 use Rattle.std.specs.List.{AllZip}
-use Rattle.linear_forms.specs.Rows.{IsCleared}
+use Rattle.linear_forms.specs.MatrixRows.{IsCleared}
 use Rattle.linear_forms.proofs.pivot.Pivot.clear_all.Given as goal
 
 abbrev pub invariant-loop-row : goal.invariant-loop-row
