@@ -7,9 +7,10 @@ use Rattle.serde_json.specs.Data.{Data, Items, item, no_items}
 use Rattle.serde_json.specs.View.{items_view, view}
 use Rattle.serde_json.specs.declared.value.Value.{Value}
 use Rattle.tests_text.specs.Shapes.{addressed, default_byte}
-use Rattle.tests_text.specs.Reading.{◌>>=◌, bytes_of, decoded, default_vector, is_hex_text, piece_of, size_of, vector}
+use Rattle.text_parts.specs.Bytes.{decoded, is_hex_text}
+use Rattle.tests_text.specs.Reading.{◌>>=◌, bytes_of, default_vector, piece_of, size_of, vector}
 use Rattle.tests_text.proofs.Collecting.{before_those, values-only}
-use Rattle.tests_text.proofs.HexTexts.{length-decoded}
+use Rattle.text_parts.proofs.ByteTexts.{length-decoded}
 use Rattle.tests_text.proofs.TestParts.{length-addressed, piece-sound}
 
 -- values that are left, and the first of them

@@ -1,4 +1,4 @@
-pub mod HexTexts
+pub mod Named
 pub mod Collecting
 pub mod Values
 pub mod TestParts

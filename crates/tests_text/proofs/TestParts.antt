@@ -1,18 +1,20 @@
 -- What the code reads of the parts of a test, against their definitions.
 use Rattle.std.proofs.Common.{◌≡◌, ℕ, ◌+◌, ◌-◌, ◌/◌, ◌%◌, ◌^◌, ◌<◌, ◌≤◌, min, Bool, true, false, ◌&&◌, cond, eqb, leb, List, [], ◌∷◌, ◌++◌, length, get_or, slice_get, Option, Some, None, IfSome, codes, refl, sym, ap, ◌∙◌, subst, length-append, arith}
+use Rattle.std.specs.Char.{is_digit}
 use Rattle.std.specs.List.{list_all}
 use Rattle.std.proofs.lemmas.Bool.{and_parts, eqb-true, eq-eqb, le-leb, leb-true}
 use Rattle.std.proofs.lemmas.Option.{get_or_from_slice_get, same_Some, slice_get-get_or, slice_get_within}
 use Rattle.lane_views.specs.declared.Bytes32.{Bytes32}
 use Rattle.serde_json.specs.Data.{Data, Items, item, no_items}
 use Rattle.serde_json.specs.Find.{as_array, as_str, get}
-use Rattle.admission_text.specs.Names.{is_hex_digit, names_64, numerals}
+use Rattle.register_names.specs.Names.{register_names}
+use Rattle.text_parts.specs.Bytes.{AreHexBytes, decoded, is_hex_text}
+use Rattle.text_parts.proofs.ByteTexts.{hex-known, hex-only, length-decoded}
 use Rattle.tests_text.specs.declared.shape.Kind.{Kind}
 use Rattle.tests_text.specs.declared.shape.Kind.TheVariants as kinds
-use Rattle.tests_text.specs.Shapes.{addressed, AreBytes, AreHexBytes, ArePieces, AreRegisters, AreVectors, default_byte, default_register, IsPiece, IsRegisterValue, IsVector, is_object, member_of}
-use Rattle.tests_text.specs.Reading.{◌>>=◌, bytes_of, collected, decoded, default_vector, is_hex_text, is_object_or_none, name_at, piece_of, pieces_of, register_of, registers_of, size_of, values, vector, vector_in, vector_of, vectors_of, whole_of}
+use Rattle.tests_text.specs.Shapes.{addressed, AreBytes, ArePieces, AreRegisters, AreVectors, default_byte, default_register, IsPiece, IsRegisterValue, IsVector, is_object, member_of, numerals}
+use Rattle.tests_text.specs.Reading.{◌>>=◌, bytes_of, collected, default_vector, is_object_or_none, name_at, piece_of, pieces_of, register_of, registers_of, size_of, values, vector, vector_in, vector_of, vectors_of, whole_of}
 use Rattle.tests_text.proofs.Collecting.{bind-some, collected-known, collected-only, length-values, values-at, values-only}
-use Rattle.tests_text.proofs.HexTexts.{hex-known, hex-only, length-decoded}
 use Rattle.tests_text.proofs.Values.{array-known, str-known, whole-known, whole-only}
 
 -- of a choice that has a value, which way it went
@@ -47,27 +49,27 @@ name-is table n name there = get_or_from_slice_get table n name [] there
 pub registers-known : (k : ℕ) (found : Option Data) (regs : List ℕ) → registers_of k found ≡ Some regs → AreRegisters k found regs
 unfolding registers_of
 registers-known k found regs h =
-    let value : ℕ → Option ℕ = λ n. register_of k n (member_of found (name_at names_64 n)) in
+    let value : ℕ → Option ℕ = λ n. register_of k n (member_of found (name_at (register_names 64) n)) in
     let p = chosen_then (is_object_or_none found (is_object kinds.Registers)) (collected value 0 16) regs h in
     let all = collected-known value 16 0 regs p.1 in
     record {
       named = object-known kinds.Registers found p.0;
       sixteen = all.0;
       each = λ n name there.
-          let below : n < 16 = slice_get_within names_64 n name there in
-          let at : register_of k n (member_of found (name_at names_64 n)) ≡ Some (get_or regs n 0) = ap value (sym (zero-first n)) ∙ all.1 n 0 below in
-          register-known k n (member_of found name) (get_or regs n 0) (ap (λ (x : List ℕ). register_of k n (member_of found x)) (sym (name-is names_64 n name there)) ∙ at);
+          let below : n < 16 = slice_get_within (register_names 64) n name there in
+          let at : register_of k n (member_of found (name_at (register_names 64) n)) ≡ Some (get_or regs n 0) = ap value (sym (zero-first n)) ∙ all.1 n 0 below in
+          register-known k n (member_of found name) (get_or regs n 0) (ap (λ (x : List ℕ). register_of k n (member_of found x)) (sym (name-is (register_names 64) n name there)) ∙ at);
     }
 
 pub registers-only : (k : ℕ) (found : Option Data) (regs : List ℕ) → AreRegisters k found regs → registers_of k found ≡ Some regs
 unfolding registers_of
 registers-only k found regs are =
-    let value : ℕ → Option ℕ = λ n. register_of k n (member_of found (name_at names_64 n)) in
+    let value : ℕ → Option ℕ = λ n. register_of k n (member_of found (name_at (register_names 64) n)) in
     let all : collected value 0 16 ≡ Some regs = collected-only value regs 16 0 are.sixteen (λ n v there.
     let below : n < length regs = slice_get_within regs n v there in
-    let named : slice_get names_64 n ≡ Some (name_at names_64 n) = slice_get-get_or names_64 n [] (omega (arith, are.sixteen)) in
+    let named : slice_get (register_names 64) n ≡ Some (name_at (register_names 64) n) = slice_get-get_or (register_names 64) n [] (omega (arith, are.sixteen)) in
     let read : get_or regs n 0 ≡ v = get_or_from_slice_get regs n v 0 there in
-    ap value (zero-first n) ∙ register-only k n (member_of found (name_at names_64 n)) (get_or regs n 0) (are.each n (name_at names_64 n) named) ∙ ap (λ (x : ℕ). Some x) read) in
+    ap value (zero-first n) ∙ register-only k n (member_of found (name_at (register_names 64) n)) (get_or regs n 0) (are.each n (name_at (register_names 64) n) named) ∙ ap (λ (x : ℕ). Some x) read) in
     let object = object-only kinds.Registers found are.named in
     rw object all
 
@@ -86,7 +88,7 @@ vector_in-only : (text : List ℕ) (v : Bytes32) → length v.bytes ≡ 32 → A
 unfolding vector_in
 vector_in-only text v long are =
     let p = hex-only v.bytes text are in
-    let even : length text % 2 ≡ 0 = eqb-true (length text % 2) 0 (and_parts (eqb (length text % 2) 0) (list_all is_hex_digit text) p.0).0 in
+    let even : length text % 2 ≡ 0 = eqb-true (length text % 2) 0 (and_parts (eqb (length text % 2) 0) (list_all (λ b. is_digit b 16) text) p.0).0 in
     let count : length text ≡ 64 = omega (arith, length-decoded text p.0, ap length p.1) in
     let digits = eq-eqb (length text) 64 count in
     rw (p.0, digits) (ap (λ (bs : List ℕ). Some (vector bs)) p.1)

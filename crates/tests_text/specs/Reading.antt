@@ -1,12 +1,12 @@
 -- What each function of the code reads of a JSON value, as functions on values.
-use Rattle.std.specs.Prelude.{ℕ, zero, suc, ◌+◌, ◌-◌, ◌*◌, ◌/◌, ◌%◌, ◌^◌, min, Bool, true, ◌&&◌, ◌==◌, nat_le, if◌then◌else◌, List, [], ◌∷◌, ◌++◌, length, Option, Some, None, option_and_then, get_or, codes}
-use Rattle.std.specs.List.{list_all}
+use Rattle.std.specs.Prelude.{ℕ, zero, suc, ◌+◌, ◌-◌, ◌/◌, ◌^◌, min, Bool, true, ◌&&◌, ◌==◌, nat_le, if◌then◌else◌, List, [], ◌∷◌, ◌++◌, length, Option, Some, None, option_and_then, get_or, codes}
 use Rattle.lane_views.specs.declared.Bytes32.{Bytes32}
 use Rattle.serde_json.specs.Data.{Data, Items, item, no_items}
 use Rattle.serde_json.specs.Find.{as_array, as_number, as_str, as_u64, get}
-use Rattle.admission_text.specs.Names.{hex_digit_value, is_hex_digit, names_64, numerals}
+use Rattle.register_names.specs.Names.{register_names}
+use Rattle.text_parts.specs.Bytes.{decoded, is_hex_text}
 use Rattle.tests_text.specs.declared.shape.Kind.TheVariants as kinds
-use Rattle.tests_text.specs.Shapes.{addressed, default_byte, default_register, is_object, member_of}
+use Rattle.tests_text.specs.Shapes.{addressed, default_byte, default_register, is_object, member_of, numerals}
 
 infixl 10 ◌>>=◌
 -- what follows, where there is a value
@@ -16,16 +16,6 @@ o >>= f = option_and_then f o
 -- a whole number
 abbrev pub whole_of : Data → Option ℕ
 whole_of d = option_and_then as_u64 (as_number d)
-
--- digits of base 16, two a byte
-abbrev pub is_hex_text : List ℕ → Bool
-is_hex_text text = (length text % 2 == 0) && list_all is_hex_digit text
-
--- the bytes that they spell
-abbrev pub decoded : List ℕ → List ℕ
-decoded [] = []
-decoded (x ∷ []) = []
-decoded (x ∷ y ∷ rest) = (16 * hex_digit_value x + hex_digit_value y) ∷ decoded rest
 
 -- the values of f from n on, so many
 unfoldable pub collected : {A : Type 0} → (ℕ → Option A) → ℕ → ℕ → Option (List A)
@@ -55,7 +45,7 @@ is_object_or_none (Some d) test = test d
 unfoldable pub registers_of : ℕ → Option Data → Option (List ℕ)
 registers_of k found =
     if is_object_or_none found (is_object kinds.Registers)
-    then collected (λ n. register_of k n (member_of found (name_at names_64 n))) 0 16 else None
+    then collected (λ n. register_of k n (member_of found (name_at (register_names 64) n))) 0 16 else None
 
 -- a vector with these bytes
 abbrev pub vector : List ℕ → Bytes32

@@ -7,16 +7,23 @@ use Rattle.std.specs.List.{list_any}
 use Rattle.lane_views.specs.declared.Bytes32.{Bytes32}
 use Rattle.serde_json.specs.Data.{Data, Items, Members, array, item, member, no_items, no_members, null, boolean, number, object, string, unsigned}
 use Rattle.serde_json.specs.Find.{get}
-use Rattle.admission_text.specs.Names.{hex_digit_value, is_hex_digit, names_64, numerals}
+use Rattle.register_names.specs.Names.{register_names}
+use Rattle.text_parts.specs.Bytes.{AreHexBytes}
 use Rattle.tests_text.specs.declared.shape.Kind.{Kind}
 use Rattle.tests_text.specs.declared.shape.Kind.TheVariants as kinds
 use Rattle.tests_text.specs.declared.test.Test.{Test}
+
+-- 0 to 15 in decimal
+abbrev pub numerals : List (List ℕ)
+numerals =
+    codes "0" ∷ codes "1" ∷ codes "2" ∷ codes "3" ∷ codes "4" ∷ codes "5" ∷ codes "6" ∷ codes "7"
+    ∷ codes "8" ∷ codes "9" ∷ codes "10" ∷ codes "11" ∷ codes "12" ∷ codes "13" ∷ codes "14" ∷ codes "15" ∷ []
 
 -- what the members of an object of each kind are named
 abbrev pub names : Kind → List (List ℕ)
 names kinds.File = codes "tests" ∷ []
 names kinds.Test = codes "regs" ∷ codes "ymm" ∷ codes "mem" ∷ []
-names kinds.Registers = names_64
+names kinds.Registers = register_names 64
 names kinds.Vectors = numerals
 names kinds.Piece = codes "at" ∷ codes "hex" ∷ []
 
@@ -46,13 +53,6 @@ member_of found name = option_and_then (get name) found
 abbrev pub IsWhole : Data → ℕ → Type 0
 IsWhole d n = d ≡ number (unsigned n)
 
--- two digits of base 16 a byte, of either case
-abbrev pub AreHexBytes : List ℕ → List ℕ → Type 0
-AreHexBytes text [] = text ≡ []
-AreHexBytes text (b ∷ bs) =
-    (high low : ℕ) × (rest : List ℕ) × (text ≡ high ∷ low ∷ rest) × (is_hex_digit high ≡ true) × (is_hex_digit low ≡ true)
-    × (b ≡ 16 * hex_digit_value high + hex_digit_value low) × AreHexBytes rest bs
-
 -- what register n holds in test k where it is not named
 abbrev pub default_register : ℕ → ℕ → ℕ
 default_register k n = 2 ^ 40 * (n + 1) + 2 ^ 20 * k * (2 * n + 1)
@@ -70,7 +70,7 @@ IsRegisterValue k n (Some d) v = IsWhole d v
 pub record AreRegisters (k : ℕ) (found : Option Data) (regs : List ℕ) : Type 0 where
   pub named : IfSome found (λ d. is_object kinds.Registers d ≡ true)
   pub sixteen : length regs ≡ 16
-  pub each : (n : ℕ) (name : List ℕ) → slice_get names_64 n ≡ Some name
+  pub each : (n : ℕ) (name : List ℕ) → slice_get (register_names 64) n ≡ Some name
       → IsRegisterValue k n (member_of found name) (slice_index regs n)
 
 -- the bytes of vector register n in test k, by its member: 64 digits

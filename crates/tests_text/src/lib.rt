@@ -8,7 +8,6 @@
 //! ```
 #![tactic(auto)]
 
-mod hex;
 mod laws;
 mod memory;
 mod read;

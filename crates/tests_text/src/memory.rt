@@ -1,15 +1,16 @@
 //! Reads the memory of a test.
 ghost use Rattle.std.specs.Prelude.{◌≡◌, ◌+◌, ◌-◌, ◌/◌, ◌^◌, ◌≤◌, ◌++◌, IfOk, OnOk, length, nat_le, option_map, true};
 ghost use Rattle.serde_json.specs.View.{items_view, view};
+ghost use Rattle.text_parts.specs.Bytes.{decoded, is_hex_text};
 ghost use Rattle.tests_text.specs.Reading as reading;
 ghost use Rattle.tests_text.specs.Shapes.{addressed};
 
-use crate::hex::{byte_at, is_hex_text};
 use crate::shape::{Kind, is_object};
 use admission::Items;
 use outcomes::Memory;
 use serde_json::Value;
 use std::alloc::Global;
+use text_parts::{byte_at, is_hex_text};
 
 // The address and the digits of a piece that ends at 2^64 at most.
 #[tactic(auto, unfolding(crate::specs::Reading::piece_of))]
@@ -51,9 +52,9 @@ pub(crate) fn size_of(pieces: &[Value]) -> Option<u64>
 
 // Appends the bytes that digits spell, from an address on.
 fn push_bytes(bytes: &mut Items<(u64, u8)>, at: u64, text: &[u8]) -> Result<(), Memory>
-    requires hex { reading.is_hex_text text.now ≡ true }
+    requires hex { is_hex_text text.now ≡ true }
     requires ends { at + length text.now / 2 ≤ 2 ^ 64 }
-    ensures { OnOk result (bytes.new ≡ bytes.old ++ addressed at (reading.decoded text.now)) }
+    ensures { OnOk result (bytes.new ≡ bytes.old ++ addressed at (decoded text.now)) }
 {
     for i in 0..text.len() / 2 {
         bytes.push((at + i as u64, byte_at(text, i)))?;

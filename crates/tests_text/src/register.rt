@@ -1,36 +1,20 @@
 //! Reads the registers of a test.
 ghost use Rattle.std.specs.Prelude.{◌≡◌, ◌<◌, ◌≤◌, Some, option_map, slice_get};
 ghost use Rattle.serde_json.specs.View.{view};
-ghost use Rattle.admission_text.specs.Names.{names_64};
+ghost use Rattle.register_names.specs.Names.{register_names};
 ghost use Rattle.tests_text.specs.Reading as reading;
 ghost use Rattle.tests_text.specs.Shapes.{default_register, is_object, member_of};
 
 use crate::shape::{Kind, is_object, member_of};
+use register_names::name_of;
 use serde_json::Value;
 
 // The name of general register `n`.
 fn register_name(n: usize) -> &'static str
     requires { n < 16 }
-    ensures { result.now ≡ reading.name_at names_64 n }
+    ensures { result.now ≡ reading.name_at (register_names 64) n }
 {
-    match n {
-        0 => "rax",
-        1 => "rcx",
-        2 => "rdx",
-        3 => "rbx",
-        4 => "rsp",
-        5 => "rbp",
-        6 => "rsi",
-        7 => "rdi",
-        8 => "r8",
-        9 => "r9",
-        10 => "r10",
-        11 => "r11",
-        12 => "r12",
-        13 => "r13",
-        14 => "r14",
-        _ => "r15",
-    }
+    name_of(64, n as u8)
 }
 
 // What register `n` holds in test `k` where it is not named.
@@ -80,7 +64,7 @@ pub(crate) fn registers_of(k: u64, found: Option<&Value>) -> Option<[u64; 16]>
 fn named_registers(k: u64, found: Option<&Value>) -> Option<[u64; 16]>
     requires { k ≤ 64 }
     ensures { result ≡ reading.collected (λ n. reading.register_of k n
-        (member_of (option_map (λ v. view v.now) found.entry) (reading.name_at names_64 n))) 0 16 }
+        (member_of (option_map (λ v. view v.now) found.entry) (reading.name_at (register_names 64) n))) 0 16 }
 {
     let mut regs = [0; 16];
     for n in 0..16usize {

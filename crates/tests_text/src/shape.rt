@@ -1,10 +1,12 @@
 //! Objects by the names of their members.
-ghost use Rattle.std.specs.Prelude.{◌≡◌, option_map};
+ghost use Rattle.std.specs.Prelude.{◌≡◌, length, map, option_map};
 ghost use Rattle.serde_json.specs.View.{members_view, view};
-ghost use Rattle.admission_text.specs.Names as names;
+ghost use Rattle.register_names.specs.Names.{register_names};
 ghost use Rattle.tests_text.specs.Shapes as shapes;
 
+use register_names::register_number;
 use serde_json::{Map, Value};
+use text_parts::place_in;
 
 /// What an object is of: the whole file, a test, a test's registers or vectors, or a piece of memory.
 #[derive(Clone, Copy, Debug, PartialEq, Eq)]
@@ -16,53 +18,28 @@ pub enum Kind {
     Piece,
 }
 
+/// 0 to 15 in decimal.
+pub(crate) fn numerals() -> &'static [&'static str]
+    ensures all { map (λ name. name.now) result.now ≡ shapes.numerals }
+    ensures sixteen { length result.now ≡ 16 }
+{
+    &[
+        "0", "1", "2", "3", "4", "5", "6", "7", "8", "9", "10", "11", "12", "13", "14", "15",
+    ]
+}
+
 // Whether it names a general register of 64 bits.
 fn is_register(name: &[u8]) -> bool
-    ensures { result ≡ shapes.is_among names.names_64 name.now }
+    ensures { result ≡ shapes.is_among (register_names 64) name.now }
 {
-    matches!(
-        name,
-        b"rax"
-            | b"rcx"
-            | b"rdx"
-            | b"rbx"
-            | b"rsp"
-            | b"rbp"
-            | b"rsi"
-            | b"rdi"
-            | b"r8"
-            | b"r9"
-            | b"r10"
-            | b"r11"
-            | b"r12"
-            | b"r13"
-            | b"r14"
-            | b"r15"
-    )
+    register_number(64, name).is_some()
 }
 
 // Whether it is a number from 0 to 15.
 fn is_numeral(name: &[u8]) -> bool
-    ensures { result ≡ shapes.is_among names.numerals name.now }
+    ensures { result ≡ shapes.is_among shapes.numerals name.now }
 {
-    matches!(
-        name,
-        b"0" | b"1"
-            | b"2"
-            | b"3"
-            | b"4"
-            | b"5"
-            | b"6"
-            | b"7"
-            | b"8"
-            | b"9"
-            | b"10"
-            | b"11"
-            | b"12"
-            | b"13"
-            | b"14"
-            | b"15"
-    )
+    place_in(numerals(), name).is_some()
 }
 
 // Whether a member of an object of this kind may have the name.

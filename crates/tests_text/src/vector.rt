@@ -1,39 +1,22 @@
 //! Reads the vectors of a test.
 ghost use Rattle.std.specs.Prelude.{◌≡◌, ◌<◌, ◌≤◌, length, option_map, true};
 ghost use Rattle.serde_json.specs.View.{view};
-ghost use Rattle.admission_text.specs.Names.{numerals};
+ghost use Rattle.text_parts.specs.Bytes.{decoded, is_hex_text};
 ghost use Rattle.tests_text.specs.Reading as reading;
-ghost use Rattle.tests_text.specs.Shapes.{default_byte, member_of};
+ghost use Rattle.tests_text.specs.Shapes.{default_byte, member_of, numerals};
 
-use crate::hex::{byte_at, is_hex_text};
 use crate::register::is_object_or_none;
-use crate::shape::{Kind, member_of};
+use crate::shape::{Kind, member_of, numerals};
 use lane_views::Bytes32;
 use serde_json::Value;
+use text_parts::{byte_at, is_hex_text};
 
 // `n` in decimal.
 fn numeral(n: usize) -> &'static str
     requires { n < 16 }
     ensures { result.now ≡ reading.name_at numerals n }
 {
-    match n {
-        0 => "0",
-        1 => "1",
-        2 => "2",
-        3 => "3",
-        4 => "4",
-        5 => "5",
-        6 => "6",
-        7 => "7",
-        8 => "8",
-        9 => "9",
-        10 => "10",
-        11 => "11",
-        12 => "12",
-        13 => "13",
-        14 => "14",
-        _ => "15",
-    }
+    numerals()[n]
 }
 
 // What byte `i` of vector register `n` holds in test `k` where it is not named.
@@ -61,9 +44,9 @@ fn default_vector(k: u64, n: u64) -> Bytes32
 
 // The vector that these digits spell.
 fn decoded_vector(text: &[u8]) -> Bytes32
-    requires hex { reading.is_hex_text text.now ≡ true }
+    requires hex { is_hex_text text.now ≡ true }
     requires long { length text.now ≡ 64 }
-    ensures { result ≡ reading.vector (reading.decoded text.now) }
+    ensures { result ≡ reading.vector (decoded text.now) }
 {
     let mut bytes = [0u8; 32];
     for i in 0..32usize {

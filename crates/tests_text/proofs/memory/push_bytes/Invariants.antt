@@ -1,5 +1,5 @@
 use Rattle.std.proofs.Common.{◌≡◌, ◌++◌, take}
-use Rattle.tests_text.specs.Reading.{decoded}
+use Rattle.text_parts.specs.Bytes.{decoded}
 use Rattle.tests_text.specs.Shapes.{addressed}
 use Rattle.tests_text.proofs.memory.push_bytes.Given as goal
 

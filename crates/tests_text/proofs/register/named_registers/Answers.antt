@@ -4,7 +4,7 @@ use Rattle.std.proofs.lemmas.List.{length-set}
 use Rattle.serde_json.specs.Data.{Data}
 use Rattle.serde_json.specs.View.{view}
 use Rattle.serde_json.specs.declared.value.Value.{Value}
-use Rattle.admission_text.specs.Names.{names_64}
+use Rattle.register_names.specs.Names.{register_names}
 use Rattle.tests_text.specs.Reading.{name_at, register_of}
 use Rattle.tests_text.specs.Shapes.{member_of}
 use Rattle.tests_text.proofs.Collecting.{collected-end, collected-more, collected-stop}
@@ -13,7 +13,7 @@ use Rattle.tests_text.proofs.register.named_registers.Goals as goal
 pub returns-in_default : goal.returns-in_default
 returns-in_default c =
     let h = c.loop-n in
-    let value : ℕ → Option ℕ = λ n. register_of c.args.k n (member_of (option_map (λ (v : Bor Value). view v.now) c.args.found) (name_at names_64 n)) in
+    let value : ℕ → Option ℕ = λ n. register_of c.args.k n (member_of (option_map (λ (v : Bor Value). view v.now) c.args.found) (name_at (register_names 64) n)) in
     let found = option_map (λ (v : Bor Value). view v.now) c.args.found in
     let read : c.register_of.result ≡ value h.n =
     c.register_of.ensures ∙ ap (λ (o : Option Data). register_of c.args.k h.n o) (c.member_of.ensures ∙ ap (member_of found) c.register_name.ensures) in
@@ -22,7 +22,7 @@ returns-in_default c =
 pub loop-n-preserved : goal.loop-n-preserved
 loop-n-preserved c =
     let h = c.loop-n in
-    let value : ℕ → Option ℕ = λ n. register_of c.args.k n (member_of (option_map (λ (v : Bor Value). view v.now) c.args.found) (name_at names_64 n)) in
+    let value : ℕ → Option ℕ = λ n. register_of c.args.k n (member_of (option_map (λ (v : Bor Value). view v.now) c.args.found) (name_at (register_names 64) n)) in
     let found = option_map (λ (v : Bor Value). view v.now) c.args.found in
     let read : c.register_of.result ≡ value h.n =
     c.register_of.ensures ∙ ap (λ (o : Option Data). register_of c.args.k h.n o) (c.member_of.ensures ∙ ap (member_of found) c.register_name.ensures) in (
@@ -33,6 +33,6 @@ loop-n-preserved c =
 pub returns : goal.returns
 returns c =
     let h = c.loop-n in
-    let value : ℕ → Option ℕ = λ n. register_of c.args.k n (member_of (option_map (λ (v : Bor Value). view v.now) c.args.found) (name_at names_64 n)) in
+    let value : ℕ → Option ℕ = λ n. register_of c.args.k n (member_of (option_map (λ (v : Bor Value). view v.now) c.args.found) (name_at (register_names 64) n)) in
     let over : 16 ≤ h.n = omega arith in
     sym (collected-end value h.regs h.n h.invariant.0 h.invariant.1 over)

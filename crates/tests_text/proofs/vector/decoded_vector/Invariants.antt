@@ -1,5 +1,5 @@
 use Rattle.std.proofs.Common.{◌≡◌, ℕ, ◌<◌, length, get_or}
-use Rattle.tests_text.specs.Reading.{decoded}
+use Rattle.text_parts.specs.Bytes.{decoded}
 use Rattle.tests_text.proofs.vector.decoded_vector.Given as goal
 
 abbrev pub invariant-loop-i : goal.invariant-loop-i

@@ -5,7 +5,7 @@ use Rattle.std.proofs.lemmas.List.{length-set}
 use Rattle.serde_json.specs.Data.{Data}
 use Rattle.serde_json.specs.View.{view}
 use Rattle.serde_json.specs.declared.value.Value.{Value}
-use Rattle.admission_text.specs.Names.{numerals}
+use Rattle.tests_text.specs.Shapes.{numerals}
 use Rattle.tests_text.specs.Reading.{name_at, vector_of}
 use Rattle.tests_text.specs.Shapes.{member_of}
 use Rattle.tests_text.proofs.Collecting.{collected-end, collected-more, collected-stop}

@@ -1,7 +1,7 @@
 use Rattle.std.proofs.Common.{◌≡◌, ◌-◌, ℕ, Option, length, take}
 use Rattle.std.specs.Option.{option_map}
 use Rattle.serde_json.specs.View.{view}
-use Rattle.admission_text.specs.Names.{numerals}
+use Rattle.tests_text.specs.Shapes.{numerals}
 use Rattle.tests_text.specs.Reading.{collected, name_at, vector_of}
 use Rattle.tests_text.specs.Shapes.{member_of}
 use Rattle.tests_text.proofs.Collecting.{before_those}
