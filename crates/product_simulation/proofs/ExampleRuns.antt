@@ -6,10 +6,10 @@ use Rattle.runs.specs.Equivalent.{AreEquivalent}
 use Rattle.runs.specs.Run.{Run, run_of, stepped}
 use Rattle.runs.specs.declared.ends.RunEnd.TheVariants.{Returned, Running}
 use Rattle.product_automaton.specs.Ranks.{HasLowRanks, LowersRanks, RanksFall, longest_path}
-use Rattle.product_simulation.specs.Examples.{AnyEnd, IsAtEntry, LeapingRelated, StandingRelated, WaitingRelated, circle_edge, edge_of, endless_step, entry_edge, leaping_product, node_at, quick_step, slow_step, slower_step, standing_product, waiting_product}
+use Rattle.product_simulation.specs.Examples.{AnyEnd, IsAtEntry, LeapingRelated, StandingRelated, WaitingRelated, circle_edge, product_edge, endless_step, entry_edge, leaping_product, product_node, quick_step, slow_step, slower_step, standing_product, waiting_product}
 use Rattle.product_simulation.specs.Leads.{EdgesLead, LeadsOn}
 
-low_node : (n : ℕ) (left right rank : ℕ) → rank < n → HasLowRanks n (node_at left right rank)
+low_node : (n : ℕ) (left right rank : ℕ) → rank < n → HasLowRanks n (product_node left right rank)
 low_node n left right rank below = record { left = below; right = omega arith }
 
 -- each element of a short list, one by one
@@ -33,20 +33,20 @@ waiting_falls = record {
 
 waiting-leads : (node : ℕ) → node < 4 → node ≢ 1 → (a b : ℕ) → WaitingRelated node a b → LeadsOn (λ s. s) quick_step slow_step waiting_product WaitingRelated node a b
 waiting-leads zero within inside a b h = rw (h.left_place, h.right_place) (record {
-  edge = edge_of 0 2 [] (0 ∷ []);
+  edge = product_edge 0 2 [] (0 ∷ []);
   is_edge = (0, lit< tt, refl);
   from = refl;
   is_way = inl (record { left_end = 0; right_end = 1; left = refl; right = refl; into = record { left_place = refl; right_place = refl } });
 })
 waiting-leads (suc zero) within inside a b h = absurd (inside refl)
 waiting-leads (suc (suc zero)) within inside a b h = rw (h.left_place, h.right_place) (record {
-  edge = edge_of 2 3 [] (1 ∷ []);
+  edge = product_edge 2 3 [] (1 ∷ []);
   is_edge = (1, lit< tt, refl);
   from = refl;
   is_way = inl (record { left_end = 0; right_end = 2; left = refl; right = refl; into = record { left_place = refl; right_place = refl } });
 })
 waiting-leads (suc (suc (suc zero))) within inside a b h = rw (h.left_place, h.right_place) (record {
-  edge = edge_of 3 1 (0 ∷ []) (2 ∷ []);
+  edge = product_edge 3 1 (0 ∷ []) (2 ∷ []);
   is_edge = (2, lit< tt, refl);
   from = refl;
   is_way = inl (record { left_end = 0; right_end = 2; left = refl; right = refl; into = tt });
@@ -73,7 +73,7 @@ leaping_falls = record {
 leaping-leads : (node : ℕ) → node < 2 → node ≢ 1 → (a b : ℕ) → LeapingRelated node a b
     → LeadsOn (λ s. s) quick_step slower_step leaping_product LeapingRelated node a b
 leaping-leads zero within inside a b h = rw (h.left_place, h.right_place) (record {
-  edge = edge_of 0 1 (0 ∷ []) (0 ∷ 1 ∷ 2 ∷ 3 ∷ 4 ∷ []);
+  edge = product_edge 0 1 (0 ∷ []) (0 ∷ 1 ∷ 2 ∷ 3 ∷ 4 ∷ []);
   is_edge = (0, lit< tt, refl);
   from = refl;
   is_way = inl (record { left_end = 0; right_end = 4; left = refl; right = refl; into = tt });

@@ -28,18 +28,18 @@ abbrev pub endless_step : ℕ → Step ℕ
 endless_step s = Goes s
 
 -- a node with these places and this left rank
-abbrev pub node_at : (left right rank : ℕ) → PNode
-node_at left right rank = record { left = left; right = right; invs = []; rank_left = rank; rank_right = 0 }
+abbrev pub product_node : (left right rank : ℕ) → PNode
+product_node left right rank = record { left = left; right = right; invs = []; rank_left = rank; rank_right = 0 }
 
 -- an edge with these paths
-abbrev pub edge_of : (from to : ℕ) → (left right : List ℕ) → PEdge
-edge_of from to left right = record { from = from; to = to; left = left; right = right }
+abbrev pub product_edge : (from to : ℕ) → (left right : List ℕ) → PEdge
+product_edge from to left right = record { from = from; to = to; left = left; right = right }
 
 -- The right function goes on along three edges, the left one along the last alone.
 abbrev pub waiting_product : Product
 waiting_product = record {
-  nodes = node_at 0 0 2 ∷ node_at 0 0 0 ∷ node_at 0 1 1 ∷ node_at 0 2 0 ∷ [];
-  edges = edge_of 0 2 [] (0 ∷ []) ∷ edge_of 2 3 [] (1 ∷ []) ∷ edge_of 3 1 (0 ∷ []) (2 ∷ []) ∷ [];
+  nodes = product_node 0 0 2 ∷ product_node 0 0 0 ∷ product_node 0 1 1 ∷ product_node 0 2 0 ∷ [];
+  edges = product_edge 0 2 [] (0 ∷ []) ∷ product_edge 2 3 [] (1 ∷ []) ∷ product_edge 3 1 (0 ∷ []) (2 ∷ []) ∷ [];
 }
 
 -- two states stand at these places
@@ -66,8 +66,8 @@ WaitingRelated (suc (suc (suc (suc k)))) a b = ⊥
 -- One edge leads from the entry to the exit, along one place of the left function and five of the right one.
 abbrev pub leaping_product : Product
 leaping_product = record {
-  nodes = node_at 0 0 0 ∷ node_at 0 0 0 ∷ [];
-  edges = edge_of 0 1 (0 ∷ []) (0 ∷ 1 ∷ 2 ∷ 3 ∷ 4 ∷ []) ∷ [];
+  nodes = product_node 0 0 0 ∷ product_node 0 0 0 ∷ [];
+  edges = product_edge 0 1 (0 ∷ []) (0 ∷ 1 ∷ 2 ∷ 3 ∷ 4 ∷ []) ∷ [];
 }
 
 -- which places are related at its two nodes
@@ -78,15 +78,15 @@ LeapingRelated (suc (suc k)) a b = ⊥
 
 -- Along its last edge, whose rank does not fall, the right function goes on for ever and the left one does not.
 abbrev pub standing_product : List PEdge → Product
-standing_product edges = record { nodes = node_at 0 0 1 ∷ node_at 0 0 0 ∷ node_at 0 0 0 ∷ []; edges = edges }
+standing_product edges = record { nodes = product_node 0 0 1 ∷ product_node 0 0 0 ∷ product_node 0 0 0 ∷ []; edges = edges }
 
 -- the edge from the entry, along which the right function goes on alone
 abbrev pub entry_edge : PEdge
-entry_edge = edge_of 0 2 [] (0 ∷ [])
+entry_edge = product_edge 0 2 [] (0 ∷ [])
 
 -- the edge from node 2 to itself, along which the right function goes on alone
 abbrev pub circle_edge : PEdge
-circle_edge = edge_of 2 2 [] (0 ∷ [])
+circle_edge = product_edge 2 2 [] (0 ∷ [])
 
 -- which places are related at the nodes of that product
 abbrev pub StandingRelated : ℕ → ℕ → ℕ → Type 0
