@@ -13,8 +13,8 @@ use Rattle.std.proofs.lemmas.Cmp.{nat_list_cmp_total, tied_itself}
 use Rattle.std.proofs.lemmas.Map.Text.{is_eq-slice_cmp}
 use Rattle.std.proofs.lemmas.Slice.Eq.{bytes_eq-Decides}
 use Rattle.std.specs.Bool.{Decides}
+use Rattle.std.proofs.lemmas.Bool.{and_parts}
 use Rattle.insn_spellings.specs.declared.shape.Shape.{Shape}
-use Rattle.insn_spellings.proofs.Bools.{both_true}
 use Rattle.insn_spellings.specs.Rows.{Row, named, in_order_after, in_order, IsRowOf}
 use Rattle.insn_spellings.specs.Spellings.{table_rows}
 use Rattle.insn_spellings.specs.LegacyRows.{add_to_cltq, cmova_to_cmovnc, cmovne_to_cmovz, cmp_to_lea, mov_to_or, packss_to_pop, por_to_sar, set_rows, shl_to_test, xor_rows}
@@ -42,16 +42,16 @@ less-from_test Greater h = cc
 greater-behind : (mnemonic : List ℕ) (rows : List Row) (j : ℕ) (other : Row) → in_order_after mnemonic rows ≡ true → slice_get rows j ≡ Some other → slice_cmp nat_cmp mnemonic other.0 ≡ Less
 greater-behind mnemonic [] j other o h = absurd (omega (arith, slice_get_within [] j other h))
 greater-behind mnemonic (row ∷ rows) zero other o h =
-    let first = less-from_test (slice_cmp nat_cmp mnemonic row.0) (both_true _ _ o).0 in
+    let first = less-from_test (slice_cmp nat_cmp mnemonic row.0) (and_parts _ _ o).0 in
     subst (λ (x : Row). slice_cmp nat_cmp mnemonic x.0 ≡ Less) (same_Some row other h) first
 greater-behind mnemonic (row ∷ rows) (suc j) other o h =
-    let first = less-from_test (slice_cmp nat_cmp mnemonic row.0) (both_true _ _ o).0 in
-    nat_list_cmp_total.trans mnemonic row.0 other.0 first (greater-behind row.0 rows j other (both_true _ _ o).1 h)
+    let first = less-from_test (slice_cmp nat_cmp mnemonic row.0) (and_parts _ _ o).0 in
+    nat_list_cmp_total.trans mnemonic row.0 other.0 first (greater-behind row.0 rows j other (and_parts _ _ o).1 h)
 
 -- rows in order are in order without their first
 order-rest : (row : Row) (rows : List Row) → in_order (row ∷ rows) ≡ true → in_order rows ≡ true
 order-rest row [] o = refl
-order-rest row (next ∷ rows) o = (both_true _ _ o).1
+order-rest row (next ∷ rows) o = (and_parts _ _ o).1
 
 -- a mnemonic is not less than itself
 not_less : (mnemonic other : List ℕ) → slice_cmp nat_cmp mnemonic other ≡ Less → mnemonic ≡ other → ⊥
@@ -103,8 +103,8 @@ rows_in_order = refl
 -- a test that all pass is passed by each
 pub passed_at : {X : Type 0} (p : X → Bool) (xs : List X) (k : ℕ) (x : X) → list_all p xs ≡ true → slice_get xs k ≡ Some x → p x ≡ true
 passed_at p [] k x all there = absurd (omega (arith, slice_get_within [] k x there))
-passed_at p (y ∷ ys) zero x all there = subst (λ z. p z ≡ true) (same_Some y x there) (both_true _ _ all).0
-passed_at p (y ∷ ys) (suc k) x all there = passed_at p ys k x (both_true _ _ all).1 there
+passed_at p (y ∷ ys) zero x all there = subst (λ z. p z ≡ true) (same_Some y x there) (and_parts _ _ all).0
+passed_at p (y ∷ ys) (suc k) x all there = passed_at p ys k x (and_parts _ _ all).1 there
 
 pub rows-once : (i j : ℕ) (row other : Row) → slice_get table_rows i ≡ Some row → slice_get table_rows j ≡ Some other → row.0 ≡ other.0 → i ≡ j
 rows-once i j row other h k e = same-index table_rows i j row other rows_in_order h k e

@@ -4,6 +4,7 @@ use Rattle.std.specs.List.{count_by}
 use Rattle.std.specs.Cmp.Lexicographic.{pointwise}
 use Rattle.std.proofs.lemmas.List.Sums.{count_by-le-length}
 use Rattle.std.proofs.lemmas.Option.{same_Some}
+use Rattle.std.proofs.lemmas.Bool.{and_parts}
 use Rattle.insn_ops.specs.declared.op.Op.{Op}
 use Rattle.insn_ops.specs.declared.op.Op.TheVariants.{Cmov, Imul, Vector}
 use Rattle.insn_ops.specs.declared.vector_op.VectorOp.{VectorOp}
@@ -18,7 +19,6 @@ use Rattle.insn_table.specs.Classes.{Form, two, three, takes_kind, takes}
 use Rattle.insn_table.specs.VectorForms.{copied, exchanged, extracted, moved_quadword, joined, shuffled, move_forms, forms_at, is_vector_width}
 use Rattle.insn_table.specs.Forms.{forms, general_forms}
 use Rattle.insn_spellings.specs.Widths.{is_wide}
-use Rattle.insn_spellings.proofs.Bools.{both_true}
 
 one_of_two : (a b : Bool) → (a ≡ true → b ≡ true → ⊥) → 0 + cond a 1 0 + cond b 1 0 ≤ 1
 one_of_two true true f = absurd (f refl refl)
@@ -76,15 +76,15 @@ classes-apart k c d [] other args at there apart h g = cc
 classes-apart k c d (e ∷ form) [] args at there apart h g = cc
 classes-apart k c d (e ∷ form) (f ∷ other) [] at there apart h g = cc
 classes-apart zero c d (e ∷ form) (f ∷ other) (a ∷ args) at there apart h g =
-    apart a (subst (λ (x : Class). takes_kind x a ≡ true) (same_Some e c at) (both_true _ _ h).0)
-    (subst (λ (x : Class). takes_kind x a ≡ true) (same_Some f d there) (both_true _ _ g).0)
+    apart a (subst (λ (x : Class). takes_kind x a ≡ true) (same_Some e c at) (and_parts _ _ h).0)
+    (subst (λ (x : Class). takes_kind x a ≡ true) (same_Some f d there) (and_parts _ _ g).0)
 classes-apart (suc k) c d (e ∷ form) (f ∷ other) (a ∷ args) at there apart h g =
-    classes-apart k c d form other args at there apart (both_true _ _ h).1 (both_true _ _ g).1
+    classes-apart k c d form other args at there apart (and_parts _ _ h).1 (and_parts _ _ g).1
 
 -- the same, of forms that take operands
 apart-at : (k : ℕ) (c d : Class) (form other : Form) (args : List Operand) → slice_get form k ≡ Some c → slice_get other k ≡ Some d → AreApart c d
     → takes args form ≡ true → takes args other ≡ true → ⊥
-apart-at k c d form other args at there apart h g = classes-apart k c d form other args at there apart (both_true _ _ h).0 (both_true _ _ g).0
+apart-at k c d form other args at there apart h g = classes-apart k c d form other args at there apart (and_parts _ _ h).0 (and_parts _ _ g).0
 
 one_form : (form : Form) (args : List Operand) → count_by (takes args) (form ∷ []) ≤ 1
 one_form form args = omega (arith, count_by-le-length (takes args) (form ∷ []))

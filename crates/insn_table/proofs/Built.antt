@@ -2,6 +2,7 @@
 use Rattle.std.proofs.Common.{◌≡◌, ℕ, zero, suc, ◌-◌, ◌<◌, ◌==◌, Bool, true, false, ◌&&◌, ◌||◌, if◌then◌else◌, List, [], ◌∷◌, length, Option, Some, None, Ok, slice_get, is_some, ◌≤◌, IfSome, refl, subst, inl, inr, ⊎_elim, arith}
 use Rattle.std.specs.List.{list_all, AllByRecursion}
 use Rattle.std.proofs.lemmas.Bool.Decides.{Decides-eqb, Decides-ltb, nat_tests}
+use Rattle.std.proofs.lemmas.Bool.{and_parts, or_cases}
 use Rattle.insn_ops.specs.declared.op.Op.{Op}
 use Rattle.insn_ops.specs.declared.op.Op.TheVariants.{Jmp, Ret}
 use Rattle.insn_table.specs.declared.insn.Operand.{Operand}
@@ -15,14 +16,13 @@ use Rattle.insn_table.specs.Forms.{fits_of}
 use Rattle.insn_table.specs.Closed.{IsClosed, IsInside, IsLeaving}
 use Rattle.insn_table.specs.Table.{HasRegisters, IsScale, IsTableInsn}
 use Rattle.insn_table.specs.Building.{four_of, is_known, is_scale, has_registers, is_inside, goes_inside, is_leaving, leaves, fault_of, IsDraft}
-use Rattle.insn_spellings.proofs.Bools.{both_true, either_true}
 use Rattle.insn_table.proofs.ClosedLists.{closed_list}
 use Rattle.insn_table.proofs.TableInsns.{fitted-insn}
 
 -- what a test that each passes says of each
 pub all-pass : {X : Type 0} (p : X → Bool) (P : X → Type 0) → ((x : X) → p x ≡ true → P x) → (xs : List X) → list_all p xs ≡ true → AllByRecursion P xs
 all-pass p P says [] h = tt
-all-pass p P says (x ∷ xs) h = let both = both_true (p x) (list_all p xs) h in (says x both.0, all-pass p P says xs both.1)
+all-pass p P says (x ∷ xs) h = let both = and_parts (p x) (list_all p xs) h in (says x both.0, all-pass p P says xs both.1)
 
 -- registers and scales
 
@@ -37,16 +37,16 @@ scale-known s h =
     ⊎_elim (λ (f : (s == 2) ≡ true). inl ((Decides-eqb s 2).0 f))
     (λ (f : (s == 4 || s == 8) ≡ true). inr (
     ⊎_elim (λ (g : (s == 4) ≡ true). inl ((Decides-eqb s 4).0 g)) (λ (g : (s == 8) ≡ true). inr ((Decides-eqb s 8).0 g))
-    (either_true (s == 4) (s == 8) f)))
-    (either_true (s == 2) (s == 4 || s == 8) e)))
-    (either_true (s == 1) (s == 2 || (s == 4 || s == 8)) h)
+    (or_cases (s == 4) (s == 8) f)))
+    (or_cases (s == 2) (s == 4 || s == 8) e)))
+    (or_cases (s == 1) (s == 2 || (s == 4 || s == 8)) h)
 
 registers-known : (a : Operand) → has_registers a ≡ true → HasRegisters a
 registers-known (Reg n w) h = (Decides-ltb n 16).0 h
 registers-known (Vec n w) h = (Decides-ltb n 16).0 h
 registers-known (Mem base index scale disp) h =
-    let first = both_true (is_known base) (is_known index && is_scale scale) h in
-    let rest = both_true (is_known index) (is_scale scale) first.1 in
+    let first = and_parts (is_known base) (is_known index && is_scale scale) h in
+    let rest = and_parts (is_known index) (is_scale scale) first.1 in
     record { 0 = known-below base first.0; 1 = known-below index rest.0; 2 = scale-known scale rest.1 }
 registers-known _ h = tt
 

@@ -2,6 +2,7 @@
 use Rattle.std.proofs.Common.{◌≡◌, ℕ, zero, suc, Bool, true, false, ◌&&◌, ◌||◌, ◌==◌, if◌then◌else◌, List, [], ◌∷◌, Option, Some, None, Ok, Err, refl, sym, ap, ◌∙◌, subst, inl, inr, ◌⊎◌, ⊎_elim, arith}
 use Rattle.std.specs.List.{AllByRecursion, list_any, find}
 use Rattle.std.proofs.lemmas.Bool.Decides.{Decides-eqb, nat_tests}
+use Rattle.std.proofs.lemmas.Bool.{and_parts, or_cases}
 use Rattle.insn_ops.specs.declared.op.Op.{Op}
 use Rattle.insn_ops.specs.declared.op.Op.TheVariants.{Mov, Shl, Shr, Sar, Vector}
 use Rattle.insn_ops.specs.declared.vector_op.VectorOp.TheVariants.{Moving}
@@ -17,15 +18,14 @@ use Rattle.insn_spellings.specs.Widths.{is_wide, has_suffix, has_shape, is_shape
 use Rattle.insn_table.specs.Classes.{Form, takes, numbers_fit}
 use Rattle.insn_table.specs.Forms.{forms, is_shift, is_lone, counted_once, completed, width_of, is_quadword_move, is_vector, chosen, insn_with, insn_of, found_form, judged_by, fits_of}
 use Rattle.insn_table.specs.Table.{HasRegisters, IsTableInsn}
-use Rattle.insn_spellings.proofs.Bools.{both_true, either_true}
 use Rattle.insn_spellings.proofs.Rows.{rows-named, named-row}
 
 -- the wide widths
 pub wide-cases : (w : ℕ) → is_wide w ≡ true → (w ≡ 16) ⊎ ((w ≡ 32) ⊎ (w ≡ 64))
 wide-cases w h =
     ⊎_elim (λ (e : (w == 16) ≡ true). inl ((Decides-eqb w 16).0 e))
-    (λ (e : (w == 32 || w == 64) ≡ true). ⊎_elim (λ (f : (w == 32) ≡ true). inr (inl ((Decides-eqb w 32).0 f))) (λ (f : (w == 64) ≡ true). inr (inr ((Decides-eqb w 64).0 f))) (either_true _ _ e))
-    (either_true _ _ h)
+    (λ (e : (w == 32 || w == 64) ≡ true). ⊎_elim (λ (f : (w == 32) ≡ true). inr (inl ((Decides-eqb w 32).0 f))) (λ (f : (w == 64) ≡ true). inr (inr ((Decides-eqb w 64).0 f))) (or_cases _ _ e))
+    (or_cases _ _ h)
 
 judged-same : (b : Bool) (i j : Insn) → (if b then Ok i else Err BadNumber) ≡ Ok j → (i ≡ j) × (b ≡ true)
 judged-same true i j h = (cc, refl)
@@ -102,9 +102,9 @@ suffix-wide zero h = cc
 suffix-wide (suc w) h = grind (arith, nat_tests)
 
 shift-wide : (op : Op) (vex : Bool) (w : ℕ) → is_shift op ≡ true → has_shape op vex w ≡ true → (w == 0) ≡ false
-shift-wide Shl vex w h s = suffix-wide w (both_true _ _ s).1
-shift-wide Shr vex w h s = suffix-wide w (both_true _ _ s).1
-shift-wide Sar vex w h s = suffix-wide w (both_true _ _ s).1
+shift-wide Shl vex w h s = suffix-wide w (and_parts _ _ s).1
+shift-wide Shr vex w h s = suffix-wide w (and_parts _ _ s).1
+shift-wide Sar vex w h s = suffix-wide w (and_parts _ _ s).1
 shift-wide _ vex w h s = cc
 
 -- an operation that doesn't shift keeps its operands, so it is made of them again

@@ -1,8 +1,8 @@
 -- Numbers of bytes below powers of two, and the widths of lanes.
-use Rattle.std.proofs.Common.{◌≡◌, ◌⊎◌, ℕ, suc, ◌+◌, ◌*◌, ◌/◌, ◌^◌, ◌<◌, ◌≤◌, Bool, true, false, List, drop, get_or, length, refl, inl, inr, sym, subst, arith}
-use Rattle.std.specs.Prelude.{◌||◌}
+use Rattle.std.proofs.Common.{◌≡◌, ℕ, suc, ◌+◌, ◌*◌, ◌/◌, ◌^◌, ◌<◌, ◌≤◌, true, List, drop, get_or, length, refl, inl, inr, sym, subst, arith}
 use Rattle.std.proofs.Math.Pow.{pow_mono}
 use Rattle.std.proofs.Math.Seq.{drop-cons}
+use Rattle.std.proofs.lemmas.Bool.{or_cases}
 use Rattle.std.proofs.lemmas.Bool.Decides.{Decides-eqb}
 use Rattle.std.proofs.lemmas.Nat.{pow-add}
 use Rattle.lane_views.specs.Lanes.{is_lane_width, number}
@@ -23,17 +23,13 @@ number_fits v n h k =
 pub number_in_front : (bs : List ℕ) (k : ℕ) → k < length bs → number (drop k bs) ≡ get_or bs k 0 + 256 * number (drop (suc k) bs)
 number_in_front bs k h = rw (drop-cons bs k 0 h) refl
 
-either : (a b : Bool) → (a || b) ≡ true → (a ≡ true) ⊎ (b ≡ true)
-either true b h = inl refl
-either false b h = inr h
-
 -- what holds at each width of a lane
 pub each_lane_width : (P : ℕ → Type 0) (w : ℕ) → is_lane_width w ≡ true → P 8 → P 16 → P 32 → P 64 → P w
-each_lane_width P w h byte word double quad = elim (either _ _ h) [
+each_lane_width P w h byte word double quad = elim (or_cases _ _ h) [
   | inl e ↦ subst P (sym ((Decides-eqb w 8).0 e)) byte
-  | inr more ↦ elim (either _ _ more) [
+  | inr more ↦ elim (or_cases _ _ more) [
     | inl e ↦ subst P (sym ((Decides-eqb w 16).0 e)) word
-    | inr rest ↦ elim (either _ _ rest) [
+    | inr rest ↦ elim (or_cases _ _ rest) [
       | inl e ↦ subst P (sym ((Decides-eqb w 32).0 e)) double
       | inr e ↦ subst P (sym ((Decides-eqb w 64).0 e)) quad
     ]

@@ -2,9 +2,9 @@
 use Rattle.std.proofs.Common.{◌≡◌, inl, inr, ℕ, ◌+◌, ◌-◌, ◌/◌, ◌%◌, ◌^◌, ◌<◌, ◌≤◌, Bool, true, false, not, nat_lt, ◌&&◌, ◌||◌, List, [], ◌∷◌, refl, subst, arith}
 use Rattle.std.specs.List.{AllByRecursion, list_all, list_any}
 use Rattle.std.proofs.lemmas.Bool.Decides.{nat_tests}
+use Rattle.std.proofs.lemmas.Bool.{and_parts, or_cases}
 use Rattle.insn_ops.specs.declared.op.Op.{Op}
 use Rattle.insn_ops.specs.declared.op.Op.TheVariants as ops
-use Rattle.insn_spellings.proofs.Bools.{both_true, either_true}
 use Rattle.insn_table.specs.declared.insn.Insn.{Insn}
 use Rattle.insn_table.specs.declared.insn.Operand.{Operand}
 use Rattle.insn_table.specs.declared.insn.Operand.TheVariants.{Reg, Imm, Mem, Vec, Pool, Target, Nothing}
@@ -43,9 +43,9 @@ region_spanned : (k : Kept) (a : Access) (rs : List Region) (at n j : ℕ) → a
     → list_any (λ r. (not a.write || r.write) && holds_access r a) rs ≡ true → j < n → is_spanned k.spans ((at + j) % 2 ^ 64) ≡ true
 region_spanned k a [] at n j same bytes small each spanned h low = cc
 region_spanned k a (r ∷ rs) at n j same bytes small each spanned h low =
-    elim (either_true ((not a.write || r.write) && holds_access r a) (list_any (λ r. (not a.write || r.write) && holds_access r a) rs) h) [
+    elim (or_cases ((not a.write || r.write) && holds_access r a) (list_any (λ r. (not a.write || r.write) && holds_access r a) rs) h) [
       | inl here ↦
-          let register_or_zero : holds_access r a ≡ true = (both_true (not a.write || r.write) (holds_access r a) here).1 in
+          let register_or_zero : holds_access r a ≡ true = (and_parts (not a.write || r.write) (holds_access r a) here).1 in
           let bounds = within_region r.base r.len at n j each.0.fits small (rw (same, bytes) at register_or_zero) low in
           spanned.0 ((at + j) % 2 ^ 64) bounds.0 bounds.1
       | inr there ↦ region_spanned k a rs at n j same bytes small each.1 spanned.1 there low
@@ -72,7 +72,7 @@ stack_spanned k at small h on j low =
 operand_spanned : (k : Kept) (o : Operand) (w : ℕ) → IsKept k → list_all (is_allowed (pure_of k)) (access_of (pure_of k) o w true) ≡ true → IsSpanned k w o
 operand_spanned k (Mem base index scale disp) w h e =
     allowed_spanned k (effective_address k.regs base index scale disp) (w / 8) true (omega arith) h
-    (both_true (is_allowed (pure_of k) (record { at = effective_address k.regs base index scale disp; bytes = w / 8; write = true })) true e).0
+    (and_parts (is_allowed (pure_of k) (record { at = effective_address k.regs base index scale disp; bytes = w / 8; write = true })) true e).0
 operand_spanned k (Reg n v) w h e = tt
 operand_spanned k (Imm v) w h e = tt
 operand_spanned k (Vec n v) w h e = tt
@@ -97,7 +97,7 @@ pub vector_spanned : (i : Insn) (k : Kept) → family_of i.op ≡ OnVectors → 
     → IsSpanned k (target_width i.op i.w) (last_operand i)
 vector_spanned i k f h allowed =
     operand_spanned k (last_operand i) (target_width i.op i.w) h
-    (written_allowed i (pure_of k) (vectors_write i.op f) (both_true _ _ allowed).0)
+    (written_allowed i (pure_of k) (vectors_write i.op f) (and_parts _ _ allowed).0)
 
 -- a register is no memory
 pub register_spanned : (k : Kept) (w : ℕ) (o : Operand) → IsGeneralRegister o → IsSpanned k w o

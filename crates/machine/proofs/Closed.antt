@@ -2,7 +2,7 @@
 use Rattle.std.proofs.Common.{◌≡◌, ◌⊎◌, ℕ, zero, suc, ◌-◌, ◌<◌, ◌==◌, Bool, true, false, ◌&&◌, ◌||◌, if◌then◌else◌, inl, inr, List, [], ◌∷◌, length, slice_get, unwrap_or, Some, None, cond, refl, sym, ◌∙◌, subst, arith, ⊎_elim}
 use Rattle.std.specs.List.{AllByRecursion, find, list_any}
 use Rattle.std.specs.Cmp.Lexicographic.{pointwise}
-use Rattle.std.proofs.lemmas.Bool.{ltb-true}
+use Rattle.std.proofs.lemmas.Bool.{ltb-true, and_parts, or_cases}
 use Rattle.std.proofs.lemmas.Bool.Decides.{Decides-eqb}
 use Rattle.insn_ops.specs.declared.op.Op.{Op}
 use Rattle.insn_ops.specs.declared.op.Op.TheVariants as ops
@@ -21,7 +21,6 @@ use Rattle.insn_spellings.specs.Widths.{has_shape, has_suffix, has_width, is_lon
 use Rattle.insn_table.specs.Forms.{forms, chosen, is_quadword_move, is_vector, told_width, width_of}
 use Rattle.insn_table.specs.Closed.{IsClosed, IsInside}
 use Rattle.insn_table.specs.Table.{HasRegisters, IsTableInsn}
-use Rattle.insn_spellings.proofs.Bools.{both_true, either_true}
 use Rattle.insn_table.proofs.TableInsns.{IsMade, fitted-made, wide-cases}
 use Rattle.machine.specs.Access.{arity}
 use Rattle.machine.specs.Family.{family_of, vector_family}
@@ -40,8 +39,8 @@ IsNamed op v w = (has_width op v ≡ true) × ((v ≡ 0) ⊎ (w ≡ v))
 
 row-named : (op : Op) (vex : Bool) (v w : ℕ) → (v ≡ 0) ⊎ (w ≡ v) → has_shape op vex v ≡ true → IsNamed op v w
 unfolding IsNamed
-row-named (ops.Vector op) vex v w e h = vectors-have op vex (both_true _ _ h).0
-row-named _ vex v w e h = ((both_true _ _ h).1, e)
+row-named (ops.Vector op) vex v w e h = vectors-have op vex (and_parts _ _ h).0
+row-named _ vex v w e h = ((and_parts _ _ h).1, e)
 
 either-width : (b : Bool) (v told : ℕ) → (v == 0) ≡ b → (v ≡ 0) ⊎ ((if b then told else v) ≡ v)
 either-width true v told e = inl ((Decides-eqb v 0).0 e)
@@ -62,10 +61,10 @@ made-named shape args line i made =
     subst (λ (x : Insn). (v : ℕ) × IsNamed x.op v x.w) made.same ((chosen shape args).w, chosen-named b shape args made.named)
 
 suffix-width : (v : ℕ) → has_suffix v ≡ true → IsWidth v
-suffix-width v h = ⊎_elim (λ (e : (v == 8) ≡ true). inl ((Decides-eqb v 8).0 e)) (λ (e : is_wide v ≡ true). inr (wide-cases v e)) (either_true _ _ h)
+suffix-width v h = ⊎_elim (λ (e : (v == 8) ≡ true). inl ((Decides-eqb v 8).0 e)) (λ (e : is_wide v ≡ true). inr (wide-cases v e)) (or_cases _ _ h)
 
 long-width : (v : ℕ) → is_long v ≡ true → (v ≡ 32) ⊎ (v ≡ 64)
-long-width v h = ⊎_elim (λ (e : (v == 32) ≡ true). inl ((Decides-eqb v 32).0 e)) (λ (e : (v == 64) ≡ true). inr ((Decides-eqb v 64).0 e)) (either_true _ _ h)
+long-width v h = ⊎_elim (λ (e : (v == 32) ≡ true). inl ((Decides-eqb v 32).0 e)) (λ (e : (v == 64) ≡ true). inr ((Decides-eqb v 64).0 e)) (or_cases _ _ h)
 
 -- a source that is widened, and what it is widened to
 IsWidened : ℕ → ℕ → Type 0
@@ -88,15 +87,15 @@ doubles-widened m v e f = (inr (inr (inl e)), inr (inr (inr f)), omega arith)
 
 widened : (m v : ℕ) → widens_to m v ≡ true → IsWidened m v
 widened m v h =
-    ⊎_elim (λ (e : (m == 8 && is_wide v) ≡ true). let both = both_true (m == 8) (is_wide v) e in bytes-widened m v ((Decides-eqb m 8).0 both.0) (wide-cases v both.1))
-    (λ (e : (m == 16 && is_long v) ≡ true). let both = both_true (m == 16) (is_long v) e in words-widened m v ((Decides-eqb m 16).0 both.0) (long-width v both.1))
-    (either_true _ _ h)
+    ⊎_elim (λ (e : (m == 8 && is_wide v) ≡ true). let both = and_parts (m == 8) (is_wide v) e in bytes-widened m v ((Decides-eqb m 8).0 both.0) (wide-cases v both.1))
+    (λ (e : (m == 16 && is_long v) ≡ true). let both = and_parts (m == 16) (is_long v) e in words-widened m v ((Decides-eqb m 16).0 both.0) (long-width v both.1))
+    (or_cases _ _ h)
 
 signed-widened : (m v : ℕ) → (widens_to m v || (m == 32 && v == 64)) ≡ true → IsWidened m v
 signed-widened m v h =
     ⊎_elim (λ (e : widens_to m v ≡ true). widened m v e)
-    (λ (e : (m == 32 && v == 64) ≡ true). let both = both_true (m == 32) (v == 64) e in doubles-widened m v ((Decides-eqb m 32).0 both.0) ((Decides-eqb v 64).0 both.1))
-    (either_true _ _ h)
+    (λ (e : (m == 32 && v == 64) ≡ true). let both = and_parts (m == 32) (v == 64) e in doubles-widened m v ((Decides-eqb m 32).0 both.0) ((Decides-eqb v 64).0 both.1))
+    (or_cases _ _ h)
 
 not_zero : (v : ℕ) → IsWidth v → v ≡ 0 → ⊥
 not_zero v (inl e) z = omega arith
@@ -157,8 +156,8 @@ pointwise_at : {A B : Type 0} (E : A → B → Bool) (xs : List A) (ys : List B)
     → E x (unwrap_or (slice_get ys k) d) ≡ true
 pointwise_at E [] ys k x d h there = absurd (cc)
 pointwise_at E (y ∷ xs) [] k x d h there = absurd (cc)
-pointwise_at E (y ∷ xs) (z ∷ ys) zero x d h there = let same : y ≡ x = cc in subst (λ (v : _). E v z ≡ true) same (both_true _ _ h).0
-pointwise_at E (y ∷ xs) (z ∷ ys) (suc k) x d h there = pointwise_at E xs ys k x d (both_true _ _ h).1 there
+pointwise_at E (y ∷ xs) (z ∷ ys) zero x d h there = let same : y ≡ x = cc in subst (λ (v : _). E v z ≡ true) same (and_parts _ _ h).0
+pointwise_at E (y ∷ xs) (z ∷ ys) (suc k) x d h there = pointwise_at E xs ys k x d (and_parts _ _ h).1 there
 
 all_at : (P : Operand → Type 0) (args : List Operand) (k : ℕ) → P Nothing → AllByRecursion P args → P (unwrap_or (slice_get args k) Nothing)
 all_at P [] k none each = none
@@ -176,7 +175,7 @@ IsTaken form i = (pointwise takes_kind form i.args ≡ true) × (numbers_fit i.a
 taken-by_one : (i : Insn) (form found : Form) → find (takes i.args) (form ∷ []) ≡ Some found → numbers_fit i.args found ≡ true → IsTaken form i
 taken-by_one i form found h fits =
     let it = found-by (takes i.args form) form found h in
-    ((both_true _ _ it.1).0, subst (λ (x : Form). numbers_fit i.args x ≡ true) (sym it.0) fits)
+    ((and_parts _ _ it.1).0, subst (λ (x : Form). numbers_fit i.args x ≡ true) (sym it.0) fits)
 
 kind_at : (i : Insn) (form : Form) (k : ℕ) (class : Class) → IsTaken form i → slice_get form k ≡ Some class → takes_kind class (operand i k) ≡ true
 kind_at i form k class taken there = pointwise_at takes_kind form i.args k class Nothing taken.0 there
@@ -187,7 +186,7 @@ number_at i form k class taken there = pointwise_at number_fits form i.args k cl
 -- the count of a shift
 
 count_of : (w : ℕ) (o : Operand) → takes_kind (Count w) o ≡ true → number_fits (Count w) o ≡ true → (n : ℕ) × (o ≡ Imm n) × (0 < n) × (n < w)
-count_of w (Imm n) kind fits = let parts = both_true _ _ fits in (n, refl, ltb-true 0 n parts.0, ltb-true n w parts.1)
+count_of w (Imm n) kind fits = let parts = and_parts _ _ fits in (n, refl, ltb-true 0 n parts.0, ltb-true n w parts.1)
 count_of w (Reg n v) kind fits = absurd (cc)
 count_of w (Mem base index scale disp) kind fits = absurd (cc)
 count_of w (Vec n v) kind fits = absurd (cc)

@@ -3,6 +3,7 @@
 use Rattle.std.proofs.Common.{◌≡◌, inl, inr, ℕ, ◌≤◌, ◌==◌, Bool, true, false, not, ◌&&◌, if◌then◌else◌, List, [], ◌∷◌, Some, refl, arith, ⊎_elim}
 use Rattle.std.specs.List.{find}
 use Rattle.std.proofs.lemmas.Bool.Decides.{Decides-eqb}
+use Rattle.std.proofs.lemmas.Bool.{and_parts, or_cases}
 use Rattle.insn_ops.specs.declared.vector_op.LaneWidth.{LaneWidth}
 use Rattle.insn_ops.specs.declared.vector_op.LaneWidth.TheVariants.{Byte, Word, Doubleword, Quadword}
 use Rattle.insn_ops.specs.declared.vector_op.LaneOp.{LaneOp}
@@ -14,7 +15,6 @@ use Rattle.insn_ops.specs.declared.vector_op.VectorOp.TheVariants.{Lanewise, Mov
 use Rattle.insn_table.specs.Classes.{Form}
 use Rattle.insn_spellings.specs.Widths.{has_lanes, has_move, has_vectors, is_byte, is_middle, is_narrow, is_quadword, is_word, widens}
 use Rattle.insn_table.specs.VectorForms.{exchanged, extracted, forms_at, is_vector_width, joined, move_forms, moved_quadword, only_low, only_wide, shuffled, vector_forms}
-use Rattle.insn_spellings.proofs.Bools.{both_true, either_true}
 use Rattle.lane_semantics.specs.LaneRows.{IsLaneRow}
 use Rattle.lane_semantics.specs.MoveRows.{HasMoveWidths, IsMoveRow, Widens}
 use Rattle.lane_semantics.specs.VectorRows.{IsVectorWidth}
@@ -79,7 +79,7 @@ lanes-have (lanes.Pmaxs l) vex h = short-bits l (either-way vex (not (is_quadwor
 lanes-have (lanes.Pminu l) vex h = short-bits l (either-way vex (not (is_quadword l)) (is_byte l) (not (is_quadword l)) (λ k. k) (byte-short l) h)
 lanes-have (lanes.Pmaxu l) vex h = short-bits l (either-way vex (not (is_quadword l)) (is_byte l) (not (is_quadword l)) (λ k. k) (byte-short l) h)
 lanes-have (lanes.Pavg l) vex h = narrow-bits l h
-lanes-have (lanes.Pabs l) vex h = short-bits l (both_true vex (not (is_quadword l)) h).1
+lanes-have (lanes.Pabs l) vex h = short-bits l (and_parts vex (not (is_quadword l)) h).1
 lanes-have _ vex h = tt
 
 widens-by : (l m : LaneWidth) → widens l m ≡ true → Widens l m
@@ -94,8 +94,8 @@ packs-by l h = let both = middle-bits l h in (both.1, both.0)
 
 moves-have : (op : MoveOp) (vex : Bool) → has_move vex op ≡ true → HasMoveWidths op
 moves-have (moves.Packss l) vex h = packs-by l h
-moves-have (moves.Pmovzx l m) vex h = widens-by l m (both_true vex (widens l m) h).1
-moves-have (moves.Pmovsx l m) vex h = widens-by l m (both_true vex (widens l m) h).1
+moves-have (moves.Pmovzx l m) vex h = widens-by l m (and_parts vex (widens l m) h).1
+moves-have (moves.Pmovsx l m) vex h = widens-by l m (and_parts vex (widens l m) h).1
 moves-have _ vex h = tt
 
 -- the lanes of an operation on vectors are of widths that its row has
@@ -125,8 +125,8 @@ found-where false p forms form h = cc
 width-by : (vex : Bool) (w : ℕ) → is_vector_width vex w ≡ true → IsVectorWidth w
 width-by vex w h =
     ⊎_elim (λ (e : (w == 128) ≡ true). inl ((Decides-eqb w 128).0 e))
-    (λ (e : (vex && w == 256) ≡ true). inr ((Decides-eqb w 256).0 (both_true vex (w == 256) e).1))
-    (either_true (w == 128) (vex && w == 256) h)
+    (λ (e : (vex && w == 256) ≡ true). inr ((Decides-eqb w 256).0 (and_parts vex (w == 256) e).1))
+    (or_cases (w == 128) (vex && w == 256) h)
 
 low-only : (w : ℕ) (p : Form → Bool) (forms : List Form) (form : Form) → find p (only_low w forms) ≡ Some form → w ≡ 128
 low-only w p forms form h = (Decides-eqb w 128).0 (found-where (w == 128) p forms form h).0

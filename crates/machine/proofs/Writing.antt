@@ -2,9 +2,9 @@
 use Rattle.std.proofs.Common.{◌≡◌, ℕ, ◌+◌, ◌-◌, ◌==◌, Bool, true, false, ◌&&◌, List, ◌++◌, if◌then◌else◌, refl, sym, ◌∙◌, subst}
 use Rattle.std.specs.List.{list_all}
 use Rattle.std.proofs.lemmas.List.Folds.{list_all-append}
+use Rattle.std.proofs.lemmas.Bool.{and_parts}
 use Rattle.insn_ops.specs.declared.op.Op.{Op}
 use Rattle.insn_ops.specs.declared.op.Op.TheVariants as ops
-use Rattle.insn_spellings.proofs.Bools.{both_true}
 use Rattle.insn_table.specs.declared.insn.Insn.{Insn}
 use Rattle.insn_table.specs.declared.insn.Operand.{Operand}
 use Rattle.insn_table.specs.declared.insn.Operand.TheVariants.{Reg, Imm, Mem, Vec, Pool, Target, Nothing}
@@ -56,7 +56,7 @@ last_allowed i s false false false true none a b c d = c
 last_allowed i s false false false false none a b c d = d
 
 two_parts : (p : Access → Bool) (xs ys : List Access) → list_all p (xs ++ ys) ≡ true → (list_all p xs ≡ true) × (list_all p ys ≡ true)
-two_parts p xs ys h = both_true (list_all p xs) (list_all p ys) (sym (list_all-append p xs ys) ∙ h)
+two_parts p xs ys h = and_parts (list_all p xs) (list_all p ys) (sym (list_all-append p xs ys) ∙ h)
 
 -- what the last operand writes is allowed where each access is
 pub written_allowed : (i : Insn) (s : Machine) → writes i.op ≡ true → list_all (is_allowed s) (operand_accesses i s) ≡ true
