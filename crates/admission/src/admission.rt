@@ -1,8 +1,8 @@
 //! Admissions, line by line.
 use crate::expr::Expr;
-use crate::items::Items;
 use align_base::Word;
 use insn_ops::Output;
+use sqlite_items::Items;
 
 /// How two values are compared.
 #[derive(Clone, Copy, Debug, PartialEq, Eq)]

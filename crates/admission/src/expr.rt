@@ -3,7 +3,7 @@ ghost use Rattle.std.specs.Prelude.{◌≡◌, ◌<◌, IfSome};
 ghost use Rattle.admission.specs.Values.{added, value_of};
 ghost use Rattle.admission.specs.WellFormed.{IsExpr, IsTerm};
 
-use crate::items::Items;
+use sqlite_items::Items;
 
 /// A term of an expression: the number `c`, times the entry value of general register `reg` where it
 /// names one, added or, where `minus` is set, subtracted.

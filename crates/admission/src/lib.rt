@@ -13,13 +13,12 @@
 
 mod admission;
 mod expr;
-mod items;
 mod meaning;
 mod pair;
 
 pub use admission::{Admission, Need, RegionLine, Rel};
 pub use expr::{Expr, Term};
 pub use insn_ops::Output;
-pub use items::Items;
 pub use memory_spans::Region;
 pub use pair::Pair;
+pub use sqlite_items::Items;

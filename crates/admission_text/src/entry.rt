@@ -51,12 +51,12 @@ impl Draft {
     {
         Draft {
             admission: Admission {
-                regions: Items::none(alloc),
-                needs: Items::none(alloc),
-                aparts: Items::none(alloc),
-                scratch: Items::none(alloc),
+                regions: Items::new(alloc),
+                needs: Items::new(alloc),
+                aparts: Items::new(alloc),
+                scratch: Items::new(alloc),
                 stack: 0,
-                live: Items::none(alloc),
+                live: Items::new(alloc),
             },
             headed: false,
             stacked: false,

@@ -45,7 +45,7 @@ fn term_of(text: &[u8], minus: bool) -> Option<Term>
 pub(crate) fn expr_of(alloc: Global, text: &[u8]) -> Result<Option<Expr>, Memory>
     ensures { IfOk result (λ found. found ≡ reading.expr_of text.now) }
 {
-    let mut terms = Items::none(alloc);
+    let mut terms = Items::new(alloc);
     let mut rest = text;
     let mut minus = false;
     while terms.len() < MOST_TERMS {

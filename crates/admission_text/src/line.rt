@@ -274,7 +274,7 @@ fn stack_entry(draft: &Draft, rest: &[u8]) -> Option<Entry>
 fn outputs_of(alloc: Global, rest: Option<&[u8]>) -> Result<Option<Items<Output>>, Memory>
     ensures { IfOk result (λ found. found ≡ reading.outputs_of (reading.parts_left 32 (option_map (λ t. t.now) rest.entry))) }
 {
-    let mut live = Items::none(alloc);
+    let mut live = Items::new(alloc);
     let mut left = rest;
     while let Some(text) = left {
         let (word, more) = first_part(text, b' ');

@@ -110,5 +110,5 @@ pub(crate) fn read_body(alloc: Global, body: &[Item<'_>]) -> Result<Insns, ReadR
     for place in 0..body.len() {
         read_next(&mut insns, &body[place], place, &labels)?;
     }
-    Ok(Insns::of(insns))
+    Ok(Insns::from_vec(insns))
 }

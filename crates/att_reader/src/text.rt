@@ -46,7 +46,7 @@ fn function_in(alloc: Global, text: &[u8], name: &Word) -> Result<Function, Read
     Ok(Function {
         name,
         insns,
-        pool: Bytes::none(alloc),
+        pool: Bytes::new(alloc),
     })
 }
 

@@ -8,8 +8,7 @@ ghost use Rattle.insn_table.specs.Building.{Appends, insn_behind, next_insn, fun
 
 use crate::assembling::{Statement, assemble};
 use crate::build_error::BuildError;
-use crate::insn::{Function, Insn, Insns, Operand};
-use crate::items::Bytes;
+use crate::insn::{Bytes, Function, Insn, Insns, Operand};
 use align_base::Word;
 use insn_ops::Op;
 use std::alloc::Global;
@@ -93,8 +92,8 @@ impl FunctionBuilder {
             Some(fault) => Err(fault),
             None => Ok(Function {
                 name,
-                pool: Bytes::none(*self.kept.allocator()),
-                insns: Insns::of(self.kept),
+                pool: Bytes::new(*self.kept.allocator()),
+                insns: Insns::from_vec(self.kept),
             }),
         }
     }

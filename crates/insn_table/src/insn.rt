@@ -1,7 +1,7 @@
 //! Instructions, their operands, and functions of them.
-use crate::items::{Bytes, Items};
 use align_base::Word;
 use insn_ops::Op;
+use sqlite_items::Items;
 
 /// An operand of an instruction.
 #[derive(Clone, Copy, Debug, PartialEq, Eq)]
@@ -48,6 +48,9 @@ pub struct Insn {
 
 /// A list of instructions.
 pub type Insns = Items<Insn>;
+
+/// A list of bytes.
+pub type Bytes = Items<u8>;
 
 /// A function of a text: its name, its instructions, and the bytes of its pool of constants.
 #[derive(Drop)]

@@ -26,7 +26,6 @@ mod fitting;
 mod form;
 mod forms;
 mod insn;
-mod items;
 mod table;
 mod vector_forms;
 
@@ -34,8 +33,7 @@ pub use assembling::{Statement, assemble};
 pub use build_error::BuildError;
 pub use builder::{FunctionBuilder, assemble_function};
 pub use fitting::{Misfit, fits};
-pub use insn::{Function, Insn, Insns, Operand};
+pub use insn::{Bytes, Function, Insn, Insns, Operand};
 pub use insn_ops::{Cond, Flags, Op};
 pub use insn_spellings::{Shape, look_up, mnemonics_stand_once, rows_are_named, rows_have_shapes};
-pub use items::{Bytes, Items};
 pub use table::{fitted_insns_are_of_the_table, forms_are_apart, table_insns_have_mnemonics};

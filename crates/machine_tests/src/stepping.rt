@@ -13,7 +13,7 @@ use std::test::Fail;
 fn constant(alloc: Global, at: u32) -> Result<(RunEnd, u64), Fail> {
     let load = two(b"movl", Operand::Pool(at), register(RAX, 32));
     let f = Function {
-        pool: Bytes::of(Vec::from_slice(alloc, &[1, 2, 3, 4, 5, 6])?),
+        pool: Bytes::from_vec(Vec::from_slice(alloc, &[1, 2, 3, 4, 5, 6])?),
         ..function(alloc, [load, NO_MORE, NO_MORE])?
     };
     let mut state = start(alloc, 0xFFFF_FFFF_FFFF_FFFF, 0)?;

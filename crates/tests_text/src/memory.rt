@@ -6,9 +6,9 @@ ghost use Rattle.tests_text.specs.Reading as reading;
 ghost use Rattle.tests_text.specs.Shapes.{addressed};
 
 use crate::shape::{Kind, is_object};
-use admission::Items;
 use outcomes::Memory;
 use serde_json::Value;
+use sqlite_items::Items;
 use std::alloc::Global;
 use text_parts::{byte_at, is_hex_text};
 
@@ -66,7 +66,7 @@ fn push_bytes(bytes: &mut Items<(u64, u8)>, at: u64, text: &[u8]) -> Result<(), 
 pub(crate) fn bytes_of(alloc: Global, pieces: &[Value]) -> Result<Option<Items<(u64, u8)>>, Memory>
     ensures { IfOk result (λ found. found ≡ reading.bytes_of (items_view pieces.now)) }
 {
-    let mut bytes = Items::none(alloc);
+    let mut bytes = Items::new(alloc);
     for piece in pieces {
         let Some((at, text)) = piece_of(piece) else {
             return Ok(None);

@@ -15,8 +15,8 @@ use crate::register::registers_of;
 use crate::shape::{Kind, is_object};
 use crate::test::{Test, Tests};
 use crate::vector::vectors_of;
-use admission::Items;
 use serde_json::{Error, Value};
+use sqlite_items::Items;
 use std::alloc::Global;
 
 // How many bytes a test may name, and how many tests a file may have.
@@ -66,7 +66,7 @@ fn tests_of(alloc: Global, values: &[Value]) -> Result<Items<Test>, TestRefusal>
     requires { length values.now ≤ 64 }
     ensures { Gives TestRefusal.Memory result (tests.tests_from 1 (items_view values.now)) }
 {
-    let mut tests = Items::none(alloc);
+    let mut tests = Items::new(alloc);
     let mut k = 0u32;
     for value in values {
         k += 1;

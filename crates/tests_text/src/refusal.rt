@@ -2,6 +2,7 @@
 ghost use Rattle.std.specs.Prelude.{◌≡◌};
 
 use outcomes::Memory;
+use std::alloc::AllocError;
 use thiserror::Error;
 
 /// The first fault of a file of tests. Tests are counted from 1.
@@ -30,6 +31,16 @@ impl From<Memory> for TestRefusal {
     ghost from_gives = { λ _ e. e ≡ refusals.Memory };
 
     fn from(_failed: Memory) -> TestRefusal {
+        TestRefusal::Memory
+    }
+}
+
+impl From<AllocError> for TestRefusal {
+    ghost use Rattle.tests_text.specs.declared.refusal.TestRefusal.TheVariants as refusals;
+
+    ghost from_gives = { λ _ e. e ≡ refusals.Memory };
+
+    fn from(_failed: AllocError) -> TestRefusal {
         TestRefusal::Memory
     }
 }

@@ -1,6 +1,6 @@
 //! Tests.
-use admission::Items;
 use lane_views::Bytes32;
+use sqlite_items::Items;
 
 /// A test: the registers and the vectors of a start state, and bytes of its memory with their
 /// addresses. Of equal addresses the last holds; a byte that is not named is 0.

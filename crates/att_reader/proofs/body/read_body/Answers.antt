@@ -24,4 +24,4 @@ loop-place-preserved c =
 pub returns : goal.returns
 returns c =
     let h = c.loop-place in
-    turn-last c.args.body.now h.place h.insns.items c.loop-place-test.false h.invariant.0 ∙ ap Ok (sym c.of-2.ensures)
+    turn-last c.args.body.now h.place h.insns.items c.loop-place-test.false h.invariant.0 ∙ ap Ok (sym c.from_vec.ensures)

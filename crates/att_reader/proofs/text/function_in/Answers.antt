@@ -33,4 +33,4 @@ returns c =
     let legible : IsLegible c.args.text.now = record { utf8 = c.in_default.ensures; short = short-known c.args.text.now (sym c.in_default-long_line.ensures) } in
     let insns = c.in_ok-insns.insns in
     let read = subst (λ (x : List ℕ). told (insns_of_text c.args.text.now x) ≡ Ok insns) c.bytes.ensures c.in_ok-insns.ensures in
-    text-function c.args.text.now c.args.name.now _ legible read (c.in_ok-name.ensures ∙ c.bytes-2.ensures) c.none.ensures
+    text-function c.args.text.now c.args.name.now _ legible read (c.in_ok-name.ensures ∙ c.bytes-2.ensures) c.new-2.ensures
