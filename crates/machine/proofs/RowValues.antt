@@ -18,7 +18,7 @@ use Rattle.machine.specs.Machine.{Machine}
 use Rattle.machine.specs.Operands.{address_of, operand, value_of}
 use Rattle.machine.specs.Ready.{finished_row}
 use Rattle.machine.specs.Runnable.{HasCount, HasRowOf, IsGeneralRegister, IsWidth}
-use Rattle.machine.specs.Step.{after_row, destination_value, result_of, row_leaves, source_operand, source_value, target_operand}
+use Rattle.machine.specs.Step.{after_row, destination_value, result_of, operand_leaves, source_operand, source_value, target_operand}
 
 -- a computing row reads its source as a number
 pub source_read : (pool : List ℕ) (op : Op) (i : Insn) (s : Machine) → family_of op ≡ Computing → source_value pool op i s ≡ value_of pool (source_width op i.w) s (source_operand op i)
@@ -26,7 +26,7 @@ source_read pool ops.Lea i s e = cc
 source_read pool _ i s e = refl
 
 -- a computing row's value is what it computes
-pub computes : (op : Op) (w c a b : ℕ) → family_of op ≡ Computing → value (row_leaves a b c) (row_expr op w b) ≡ computed op w a b
+pub computes : (op : Op) (w c a b : ℕ) → family_of op ≡ Computing → value (operand_leaves a b c) (row_expr op w b) ≡ computed op w a b
 computes (ops.Cmov cond) w c a b e = cc
 computes (ops.Set cond) w c a b e = cc
 computes _ w c a b e = refl
@@ -92,7 +92,7 @@ pub row_after : (pool : List ℕ) (i : Insn) (s : Machine) (a b word : ℕ) (fla
     → word ≡ computed i.op i.w a b → flags ≡ flags_after i.op i.w a b s.flags → finished_row i s word flags ≡ after_row pool i s 0
 row_after pool i s a b word flags f da sb w g =
     let source : b ≡ source_value pool i.op i s = sb ∙ sym (source_read pool i.op i s f) in
-    let result : word ≡ result_of pool i s 0 = w ∙ sym (computes i.op i.w 0 a b f) ∙ (λ j. value (row_leaves (da j) (source j) 0) (row_expr i.op i.w (source j))) in
+    let result : word ≡ result_of pool i s 0 = w ∙ sym (computes i.op i.w 0 a b f) ∙ (λ j. value (operand_leaves (da j) (source j) 0) (row_expr i.op i.w (source j))) in
     let after : flags ≡ flags_after i.op i.w (destination_value pool i s) (source_value pool i.op i s) s.flags = g ∙ (λ j. flags_after i.op i.w (da j) (source j) s.flags) in
     λ j. finished_row i s (result j) (after j)
 
@@ -130,7 +130,7 @@ kept_after pool i s word cond f w =
     λ j. finished_row i s (w j) (sym after j)
 
 -- the value of the row of `lea`
-pub address_result : (op : Op) (w a b : ℕ) → family_of op ≡ Address → value (row_leaves a b 0) (row_expr op w b) ≡ b % 2 ^ w
+pub address_result : (op : Op) (w a b : ℕ) → family_of op ≡ Address → value (operand_leaves a b 0) (row_expr op w b) ≡ b % 2 ^ w
 address_result ops.Lea w a b f = ap (λ (x : ℕ). x % 2 ^ w) (div-one b)
 address_result (ops.Vector op) w a b f = absurd (no_vectors op Address tt f)
 address_result _ w a b f = cc
@@ -154,7 +154,7 @@ address_after pool i s word f w = kept_after pool i s word 0 (inl f)
     (w ∙ ap (λ (x : ℕ). x % 2 ^ i.w) (sym (address_source pool i.op i s f)) ∙ sym (address_result i.op i.w (destination_value pool i s) (source_value pool i.op i s) f))
 
 -- the value of the row of a move by condition
-pub choice_result : (op : Op) (w a b : ℕ) (holds : Bool) → family_of op ≡ Choice → value (row_leaves a b (bit holds)) (row_expr op w b) ≡ (if holds then b else a)
+pub choice_result : (op : Op) (w a b : ℕ) (holds : Bool) → family_of op ≡ Choice → value (operand_leaves a b (bit holds)) (row_expr op w b) ≡ (if holds then b else a)
 choice_result (ops.Cmov c) w a b true f = refl
 choice_result (ops.Cmov c) w a b false f = refl
 choice_result (ops.Vector op) w a b holds f = absurd (no_vectors op Choice tt f)
@@ -172,11 +172,11 @@ pub choice_after : (pool : List ℕ) (i : Insn) (s : Machine) (a b word : ℕ) (
     → finished_row i s word s.flags ≡ after_row pool i s (bit holds)
 choice_after pool i s a b word holds f da sb w =
     let source : b ≡ source_value pool i.op i s = sb ∙ sym (choice_source pool i.op i s f) in
-    let result : word ≡ result_of pool i s (bit holds) = w ∙ sym (choice_result i.op i.w a b holds f) ∙ (λ j. value (row_leaves (da j) (source j) (bit holds)) (row_expr i.op i.w (source j))) in
+    let result : word ≡ result_of pool i s (bit holds) = w ∙ sym (choice_result i.op i.w a b holds f) ∙ (λ j. value (operand_leaves (da j) (source j) (bit holds)) (row_expr i.op i.w (source j))) in
     kept_after pool i s word (bit holds) (inr (inl f)) result
 
 -- the value of the row of a byte set by condition
-pub setting_result : (op : Op) (w a b : ℕ) (holds : Bool) → family_of op ≡ Setting → value (row_leaves a b (bit holds)) (row_expr op w b) ≡ bit holds
+pub setting_result : (op : Op) (w a b : ℕ) (holds : Bool) → family_of op ≡ Setting → value (operand_leaves a b (bit holds)) (row_expr op w b) ≡ bit holds
 setting_result (ops.Set c) w a b true f = refl
 setting_result (ops.Set c) w a b false f = refl
 setting_result (ops.Vector op) w a b holds f = absurd (no_vectors op Setting tt f)

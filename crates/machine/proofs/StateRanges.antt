@@ -23,7 +23,7 @@ use Rattle.machine.specs.Operands.{effective_address, register_after, operand, v
 use Rattle.runs.specs.Run.{Step, Goes, run_of}
 use Rattle.runs.proofs.Guarding.{guarded-goes}
 use Rattle.machine.specs.Runnable.{HasWidth, IsRunnable, IsRunnableFunction, IsWidth}
-use Rattle.machine.specs.Step.{after_row, allows_step, after_change, free_step, destination_operand, destination_value, register_number, result_of, row_leaves, source_operand, source_value, step_of, target_operand}
+use Rattle.machine.specs.Step.{after_row, allows_step, after_change, free_step, destination_operand, destination_value, register_number, result_of, operand_leaves, source_operand, source_value, step_of, target_operand}
 use Rattle.memory_spans.proofs.Bytewise.{byte_in_front}
 use Rattle.machine.proofs.Families.{free-goes}
 use Rattle.machine.proofs.Keeping.{set_regs}
@@ -121,7 +121,7 @@ computed_result pool n i s f r bytes state =
     let low : a < 2 ^ i.w = value_below pool i.w s (destination_operand i.op i) width bytes state in
     let high : b < 2 ^ source_width i.op i.w = value_below pool (source_width i.op i.w) s (source_operand i.op i) (source_is_width i.op i width r.row) bytes state in
     let small : computed i.op i.w a b < 2 ^ i.w = computed_below i.op i.w a b (row_computes pool i.op i s a b f width r.row low high refl) in
-    let same : computed i.op i.w a b ≡ result_of pool i s 0 = sym (computes i.op i.w 0 a b f) ∙ (λ j. value (row_leaves a (sym (source_read pool i.op i s f) j) 0) (row_expr i.op i.w (sym (source_read pool i.op i s f) j))) in
+    let same : computed i.op i.w a b ≡ result_of pool i s 0 = sym (computes i.op i.w 0 a b f) ∙ (λ j. value (operand_leaves a (sym (source_read pool i.op i s f) j) 0) (row_expr i.op i.w (sym (source_read pool i.op i s f) j))) in
     subst (λ (x : ℕ). x < 2 ^ i.w) same small
 
 address_below : (pool : List ℕ) (i : Insn) (s : Machine) → family_of i.op ≡ Address → result_of pool i s 0 < 2 ^ i.w

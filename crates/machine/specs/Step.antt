@@ -51,16 +51,16 @@ abbrev pub destination_value : List ℕ → Insn → Machine → ℕ
 destination_value pool i s = value_of pool i.w s (destination_operand i.op i)
 
 -- the leaves of a row: destination, source, condition
-abbrev pub row_leaves : ℕ → ℕ → ℕ → ℕ → ℕ
-row_leaves destination source cond zero = destination
-row_leaves destination source cond (suc zero) = source
-row_leaves destination source cond (suc (suc i)) = cond
+abbrev pub operand_leaves : ℕ → ℕ → ℕ → ℕ → ℕ
+operand_leaves destination source cond zero = destination
+operand_leaves destination source cond (suc zero) = source
+operand_leaves destination source cond (suc (suc i)) = cond
 
 -- what a row computes, where its condition has this value
 abbrev pub result_of : List ℕ → Insn → Machine → ℕ → ℕ
 result_of pool i s cond =
     let source = source_value pool i.op i s in
-    value (row_leaves (destination_value pool i s) source cond) (row_expr i.op i.w source)
+    value (operand_leaves (destination_value pool i s) source cond) (row_expr i.op i.w source)
 
 -- the state after a row's result
 abbrev pub with_result : List ℕ → Insn → Machine → ℕ → Machine

@@ -30,13 +30,13 @@ abbrev pub vector_at : Machine → ℕ → List ℕ
 vector_at s n = get_or s.vecs n []
 
 -- a word of 64 bits, and zeros above it
-abbrev pub low_word : ℕ → List ℕ
-low_word word = with_lane 64 0 word (replicate 32 0)
+abbrev pub word_vector : ℕ → List ℕ
+word_vector word = with_lane 64 0 word (replicate 32 0)
 
 -- what an operand of w bits gives as a vector, where the function's pool of constants has these bytes
 abbrev pub operand_vector : List ℕ → ℕ → Machine → Operand → List ℕ
 operand_vector pool w s (Vec n v) = vector_at s n
-operand_vector pool w s (Reg n v) = low_word (slice_index s.regs n)
+operand_vector pool w s (Reg n v) = word_vector (slice_index s.regs n)
 operand_vector pool w s (Mem base index scale disp) =
     vector_from s.memory (effective_address s.regs base index scale disp) (w / 8)
 operand_vector pool w s (Pool at) = vector_from (λ place. slice_index pool place) at (w / 8)

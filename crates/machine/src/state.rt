@@ -26,7 +26,7 @@ use crate::operands::{
 };
 use crate::ranges::{are_regs, are_vecs};
 use crate::vector_access::alignment;
-use crate::vectors::{clear_above, control, low_word, written};
+use crate::vectors::{clear_above, control, word_vector, written};
 use insn_ops::Flags;
 use insn_table::{Function, Insn, Op, Operand};
 use lane_ops::vector;
@@ -477,7 +477,7 @@ impl State {
     {
         match operand {
             Operand::Vec { n, .. } => self.vecs[n as usize],
-            Operand::Reg { n, .. } => low_word(self.regs[n as usize]),
+            Operand::Reg { n, .. } => word_vector(self.regs[n as usize]),
             Operand::Mem { .. } => load(&self.spans, self.address(operand), w / 8),
             Operand::Pool(at) => load_in(pool, at as usize, w / 8),
             // No other operand is read as a vector.

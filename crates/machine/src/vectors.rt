@@ -8,8 +8,8 @@ use lane_views::Bytes32;
 use memory_spans::zeros;
 
 /// A word of 64 bits, and zeros above it.
-pub fn low_word(word: u64) -> Bytes32
-    ensures { result.bytes ≡ vectors.low_word word }
+pub fn word_vector(word: u64) -> Bytes32
+    ensures { result.bytes ≡ vectors.word_vector word }
 {
     let mut vector = zeros();
     vector.set_lane(64, 0, word);
