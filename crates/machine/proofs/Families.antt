@@ -73,16 +73,17 @@ known-goes : (o : Option Bool) (g : Bool → Step Machine) (t : Machine) → ste
 known-goes None g t h = absurd (cc)
 known-goes (Some holds) g t h = (holds, h)
 
-to-goes : (next : Option ℕ) (u t : Machine) → step_to next u ≡ Goes t → (place : ℕ) × (at_place u place ≡ t)
+to-goes : (next : Option ℕ) (u t : Machine) → step_to next u ≡ Goes t → (place : ℕ) × (next ≡ Some place) × (at_place u place ≡ t)
 to-goes None u t h = absurd (cc)
-to-goes (Some place) u t h = (place, cc)
+to-goes (Some place) u t h = (place, refl, cc)
 
--- the free step goes on by an instruction: to its change of the state, at some place
+-- the free step goes on by an instruction: to its change of the state, at the place to which it leads
 pub record GoesBy (insns : List Insn) (pool : List ℕ) (s t : Machine) : Type 0 where
   pub insn : Insn
   pub there : slice_get insns s.place ≡ Some insn
   pub holds : Bool
   pub place : ℕ
+  pub led : leads_to (family_of insn.op) insn s.place holds ≡ Some place
   pub is : at_place (after_change (family_of insn.op) pool insn s holds) place ≡ t
 
 found-goes : (insns : List Insn) (pool : List ℕ) (s t : Machine) (found : Option Insn) → slice_get insns s.place ≡ found → free_at pool found s ≡ Goes t
@@ -91,7 +92,7 @@ found-goes insns pool s t None there h = absurd (cc)
 found-goes insns pool s t (Some i) there h =
     let known = known-goes (holds_of i.op s.flags) (goes (family_of i.op) pool i s) t h in
     let led = to-goes (leads_to (family_of i.op) i s.place known.0) (after_change (family_of i.op) pool i s known.0) t known.1 in
-    record { insn = i; there = there; holds = known.0; place = led.0; is = led.1 }
+    record { insn = i; there = there; holds = known.0; place = led.0; led = led.1; is = led.2 }
 
 -- A free step that goes on does so by the instruction at the state's place.
 pub free-goes : (insns : List Insn) (pool : List ℕ) (s t : Machine) → free_step insns pool s ≡ Goes t → GoesBy insns pool s t

@@ -1,5 +1,5 @@
 -- A run follows the flow graph of its function.
-use Rattle.std.proofs.Common.{◌≡◌, ◌⊎◌, inl, inr, ℕ, zero, suc, ◌+◌, ◌<◌, ◌≤◌, Bool, true, false, List, length, map, Option, Some, None, slice_get, slice_index, refl, sym, ◌∙◌, ap, subst, add-one, arith}
+use Rattle.std.proofs.Common.{◌≡◌, inl, inr, ℕ, zero, suc, ◌+◌, ◌<◌, ◌≤◌, Bool, true, false, List, length, Option, Some, slice_get, slice_index, refl, sym, ◌∙◌, ap, subst, add-one, arith}
 use Rattle.std.specs.Option.{option_map}
 use Rattle.std.proofs.lemmas.Bool.{cases_lt}
 use Rattle.std.proofs.lemmas.List.{length-map}
@@ -14,11 +14,11 @@ use Rattle.insn_table.specs.declared.insn.Operand.{Operand}
 use Rattle.insn_table.specs.declared.insn.Operand.TheVariants.{Reg, Imm, Mem, Vec, Pool, Target, Nothing}
 use Rattle.flow_graph.specs.Flows.{Follows, IsPath, Leads, flow_by, flow_of, flows_of, target_place}
 use Rattle.machine.proofs.Closed.{closed-runnable}
-use Rattle.machine.proofs.Families.{stays_inside, step_at}
-use Rattle.machine.specs.Family.{family_of, holds_of, vector_family}
+use Rattle.machine.proofs.Families.{free-goes, stays_inside, step_at}
+use Rattle.machine.specs.Family.{family_of, vector_family}
 use Rattle.machine.specs.Machine.{Machine}
 use Rattle.machine.specs.Operands.{operand}
-use Rattle.machine.specs.Step.{after_change, allows_step, at_place, free_at, free_step, goes, insn_step, jump_place, leads_to, step_of, step_to, step_where_known}
+use Rattle.machine.specs.Step.{allows_step, free_step, goes, jump_place, leads_to, step_of}
 use Rattle.runs.specs.declared.ends.RunEnd.{RunEnd}
 use Rattle.runs.specs.declared.ends.RunEnd.TheVariants.{Returned, Faulted, Unset, Running}
 use Rattle.runs.specs.declared.ends.StepEnd.TheVariants as ends
@@ -58,32 +58,17 @@ tested-goes false Returns t h = absurd (cc)
 tested-goes false Faults t h = absurd (cc)
 tested-goes false MeetsUnset t h = absurd (cc)
 
-known-goes : (o : Option Bool) (g : Bool → Step Machine) (t : Machine) → step_where_known o g ≡ Goes t → (holds : Bool) × (g holds ≡ Goes t)
-known-goes None g t h = absurd (cc)
-known-goes (Some holds) g t h = (holds, h)
-
-to-goes : (next : Option ℕ) (u t : Machine) → step_to next u ≡ Goes t → next ≡ Some t.place
-to-goes None u t h = absurd (cc)
-to-goes (Some place) u t h =
-    let same : at_place u place ≡ t = cc in ap (λ (m : Machine). Some m.place) same
-
 -- a step of the function goes on by an instruction, to a place that follows in the flow
 pub record GoesOn (insns : List Insn) (s t : Machine) : Type 0 where
   pub insn : Insn
   pub there : slice_get insns s.place ≡ Some insn
   pub leads : Leads (flow_of insn) s.place t.place
 
-found-goes : (insns : List Insn) (pool : List ℕ) (s t : Machine) (found : Option Insn) → slice_get insns s.place ≡ found → free_at pool found s ≡ Goes t
-    → GoesOn insns s t
-found-goes insns pool s t None there h = absurd (cc)
-found-goes insns pool s t (Some i) there h =
-    let known = known-goes (holds_of i.op s.flags) (goes (family_of i.op) pool i s) t h in
-    let next = to-goes (leads_to (family_of i.op) i s.place known.0) (after_change (family_of i.op) pool i s known.0) t known.1 in
-    record { insn = i; there = there; leads = led i.op i s.place t.place known.0 next }
-
 goes-on : (insns : List Insn) (pool : List ℕ) (s t : Machine) → step_of insns pool s ≡ Goes t → GoesOn insns s t
 goes-on insns pool s t h =
-    found-goes insns pool s t (slice_get insns s.place) refl (tested-goes (allows_step insns s) (free_step insns pool s) t h)
+    let by = free-goes insns pool s t (tested-goes (allows_step insns s) (free_step insns pool s) t h) in
+    let next : leads_to (family_of by.insn.op) by.insn s.place by.holds ≡ Some t.place = by.led ∙ ap (λ (m : Machine). Some m.place) by.is in
+    record { insn = by.insn; there = by.there; leads = led by.insn.op by.insn s.place t.place by.holds next }
 
 -- a step that goes on follows the flow
 pub step-follows : (insns : List Insn) (pool : List ℕ) (s t : Machine) → step_of insns pool s ≡ Goes t → Follows (flows_of insns) s.place t.place

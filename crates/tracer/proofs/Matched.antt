@@ -1,5 +1,5 @@
 -- An alignment matches two traces in one way.
-use Rattle.std.proofs.Common.{◌≡◌, ℕ, ◌<◌, ◌≤◌, List, [], ◌∷◌, refl, sym, subst, arith}
+use Rattle.std.proofs.Common.{◌≡◌, ℕ, List, [], ◌∷◌, refl, sym, subst, arith}
 use Rattle.tracer.specs.Matching.{AreMatched, IsNext}
 
 -- the next pair is one

@@ -1,6 +1,6 @@
 -- Places and visits, step by step.
-use Rattle.std.proofs.Common.{◌≡◌, ◌≢◌, ◌⊎◌, ◌↔◌, inl, inr, ℕ, ◌+◌, ◌<◌, ◌≤◌, List, [], ◌∷◌, ◌++◌, length, map, set, Option, Some, slice_get, slice_index, refl, sym, ◌∙◌, ap, subst, arith}
-use Rattle.std.specs.Prelude.{All, Contains}
+use Rattle.std.proofs.Common.{◌≡◌, ◌≢◌, inl, inr, ℕ, ◌+◌, ◌<◌, List, [], ◌∷◌, ◌++◌, length, map, set, Option, Some, slice_get, slice_index, refl, sym, ◌∙◌, ap, subst, arith}
+use Rattle.std.specs.Prelude.{Contains}
 use Rattle.std.specs.List.Sorted.{IsStrictlyIncreasing}
 use Rattle.std.proofs.lemmas.Bool.{cases_lt}
 use Rattle.std.proofs.lemmas.List.{get_or_append_left, get_or-set_other, get_or-set_same, get_or_push, length-set, length_push, map-append}
@@ -9,7 +9,7 @@ use Rattle.std.specs.Option.{option_map}
 use Rattle.std.proofs.lemmas.Option.{slice_get-get_or, slice_get-map}
 use Rattle.lane_views.specs.declared.Bytes32.{Bytes32}
 use Rattle.flow_graph.specs.declared.control.Flow.{Flow}
-use Rattle.flow_graph.specs.Flows.{IsHead, ListsInOrder}
+use Rattle.flow_graph.specs.Flows.{IsHead}
 use Rattle.machine.specs.Machine.{Machine}
 use Rattle.tracer.specs.declared.recording.Visit.{Visit}
 use Rattle.tracer.specs.Recording.{AtHead, Elsewhere, Shows, Visits}

@@ -1,5 +1,5 @@
 -- A trace, step by step and at its end.
-use Rattle.std.proofs.Common.{◌≡◌, ℕ, ◌+◌, Option, Some, None, refl, sym, ◌∙◌, ap, subst}
+use Rattle.std.proofs.Common.{◌≡◌, ℕ, ◌+◌, Some, None, sym, ◌∙◌, ap, subst}
 use Rattle.flow_graph.specs.declared.control.Flow.{Flow}
 use Rattle.flow_graph.specs.Flows.{flows_of}
 use Rattle.insn_table.specs.declared.insn.Function.{Function}
@@ -11,7 +11,6 @@ use Rattle.runs.specs.Run.{Run, run_of}
 use Rattle.std.specs.Prelude.{List}
 use Rattle.tracer.specs.declared.recording.Record.{Record}
 use Rattle.tracer.specs.declared.traces.Trace.{Trace}
-use Rattle.tracer.specs.declared.traces.TraceRefusal.{TraceRefusal}
 use Rattle.tracer.specs.declared.traces.TraceRefusal.TheVariants as refusals
 use Rattle.tracer.specs.Recording.{HasRegisters, Records, Visits}
 use Rattle.tracer.specs.Traces.{ArePlaces, AreVisits, IsTrace, end_within, refusal_of, state_after, steps_of}

@@ -1,5 +1,5 @@
 -- What a visit shows of a state, and what is recorded of a step.
-use Rattle.std.specs.Prelude.{◌≡◌, ◌⊎◌, ℕ, ◌<◌, List, [], ◌∷◌, ◌++◌, map, slice_get, slice_index}
+use Rattle.std.specs.Prelude.{◌≡◌, ℕ, ◌<◌, List, [], ◌∷◌, ◌++◌, map, slice_get, slice_index}
 use Rattle.flow_graph.specs.declared.control.Flow.{Flow}
 use Rattle.flow_graph.specs.Flows.{IsHead}
 use Rattle.lane_views.specs.declared.Bytes32.{Bytes32}

@@ -20,8 +20,10 @@ pub fn path_of_run_law()
         → ArePlaces (λ k. (run_of (step_of insns pool) s k).0) (n + 1) places → IsPath (flows_of insns) places }
 {}
 
-/// The law that an alignment matches two traces in one way. It does nothing.
+/// The law that an alignment matches two traces in exactly one way, perhaps in no pair. It does nothing.
 pub fn matching_law()
-    ensures { (alignment : Alignment) (left right : Trace) (pairs others : List (ℕ × ℕ))
+    ensures some { (alignment : Alignment) (left right : Trace)
+        → (pairs : List (ℕ × ℕ)) × IsMatching alignment left right pairs }
+    ensures once { (alignment : Alignment) (left right : Trace) (pairs others : List (ℕ × ℕ))
         → IsMatching alignment left right pairs → IsMatching alignment left right others → pairs ≡ others }
 {}

@@ -1,4 +1,3 @@
-use Rattle.std.proofs.Common.{arith}
 use Rattle.tracer.proofs.Recorded.{vectors-more}
 use Rattle.tracer.proofs.recording.vectors.Goals as goal
 
