@@ -69,7 +69,7 @@ target-inside body name place h =
     omega (arith, h.number, count-append is_code h.before (h.label ∷ h.after), count-cons is_code h.label h.after, any-counted is_code h.after h.carried)
 
 -- what holds of what each item spells
-spelled-each : (IsInsn : List ℕ → ℕ → Insn → Type 0) (P : Insn → Type 0) → ((x : List ℕ) (line : ℕ) (i : Insn) → IsInsn x line i → P i)
+pub spelled-each : (IsInsn : List ℕ → ℕ → Insn → Type 0) (P : Insn → Type 0) → ((x : List ℕ) (line : ℕ) (i : Insn) → IsInsn x line i → P i)
     → (items : List Item) (insns : List Insn) → AllZip (Spells IsInsn) items insns → (k : ℕ) (i : Insn) → slice_get insns k ≡ Some i → P i
 spelled-each IsInsn P each [] [] read k i there = cc
 spelled-each IsInsn P each [] (j ∷ js) read k i there = absurd read

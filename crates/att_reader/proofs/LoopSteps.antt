@@ -1,9 +1,8 @@
 -- Single turns of the code: items of a body that are read one after another, and what is told of a whole body.
-use Rattle.std.proofs.Common.{◌≡◌, ℕ, ◌+◌, ◌<◌, ◌≤◌, Bool, true, false, cond, ltb, not, ◌⊎◌, inr, List, [], ◌∷◌, ◌++◌, length, take, drop, get_or, map, Some, None, Result, Ok, Err, refl, sym, ap, ◌∙◌, subst, append-nil, append_assoc, add-one, drop-cons, arith}
+use Rattle.std.proofs.Common.{◌≡◌, ℕ, ◌+◌, ◌<◌, ◌≤◌, Bool, true, false, cond, ltb, not, ◌⊎◌, inr, List, [], ◌∷◌, ◌++◌, length, take, drop, get_or, map, Some, None, Result, Ok, Err, refl, sym, ap, ◌∙◌, subst, append-nil, append_assoc, add-one, arith}
 use Rattle.std.specs.List.{list_any, count_by}
 use Rattle.std.proofs.Math.Seq.{take-suc}
-use Rattle.std.proofs.Math.ListN.{drop_of_length-le}
-use Rattle.std.proofs.lemmas.List.{length-map, length-append, take-map, drop-map, map-append}
+use Rattle.std.proofs.lemmas.List.{length-append, take-map, map-append}
 use Rattle.outcomes.specs.Firsts.{◌>>=◌, all_of}
 use Rattle.outcomes.proofs.Answering.{unless-map}
 use Rattle.insn_table.specs.declared.insn.Insn.{Insn}
@@ -20,6 +19,7 @@ use Rattle.att_bodies.specs.Body.{is_label, is_directive, is_code}
 use Rattle.att_bodies.specs.Faults.{Fault, fault, is_data}
 use Rattle.att_bodies.specs.Functions.{last_line}
 use Rattle.att_bodies.specs.Reading.{target_of, extent_of, item_of, at_line, counted, leaves, insns_in}
+use Rattle.att_bodies.proofs.CodeSteps.{drop-map_seen, items-gone}
 use Rattle.att_bodies.proofs.Counts.{count-push}
 use Rattle.att_statements.specs.ReadingStatements.{statement_of}
 use Rattle.att_reader.specs.Reading.{told, item_in, body_in, body_from, Grows, insns_of_text}
@@ -107,11 +107,6 @@ take_next items n d within =
     let here : take (n + 1) items ≡ take n items ++ get_or items n d ∷ [] = rw add-one (take-suc items n d within) in
     take-map seen (n + 1) items ∙ ap (map seen) here ∙ map-append seen (take n items) (get_or items n d ∷ []) ∙ ap (λ (x : List Item). x ++ seen (get_or items n d) ∷ []) (sym (take-map seen n items))
 
-drop_next : (items : List KeptItem) (n : ℕ) (d : KeptItem) → n < length items → drop n (map seen items) ≡ seen (get_or items n d) ∷ drop (n + 1) (map seen items)
-drop_next items n d within =
-    let here : drop n items ≡ get_or items n d ∷ drop (n + 1) items = rw (add-one, drop-cons items n d) refl in
-    drop-map seen n items ∙ ap (map seen) here ∙ ap (λ (x : List Item). seen (get_or items n d) ∷ x) (sym (drop-map seen (n + 1) items))
-
 module _ (kept : List KeptItem) (n : ℕ) (d : KeptItem) (within : n < length kept) where
   -- a turn of the loop that reads an item
   pub turn-next : (insns new : List Insn) → Grows (item_in (map seen kept) (take n (map seen kept)) (seen (get_or kept n d))) insns new
@@ -121,7 +116,7 @@ module _ (kept : List KeptItem) (n : ℕ) (d : KeptItem) (within : n < length ke
   turn-next insns new grows =
       let body = map seen kept in
       let i : Item = seen (get_or kept n d) in
-      ap (λ (x : List Item). all_of (item_in body) (take n body) x >>= λ more. Ok (insns ++ more)) (drop_next kept n d within)
+      ap (λ (x : List Item). all_of (item_in body) (take n body) x >>= λ more. Ok (insns ++ more)) (drop-map_seen kept n d within)
       ∙ from-next (item_in body) (take n body) (drop (n + 1) body) i insns new grows
       ∙ ap (λ (x : List Item). all_of (item_in body) x (drop (n + 1) body) >>= λ more. Ok (new ++ more)) (sym (take_next kept n d within))
 
@@ -131,11 +126,8 @@ module _ (kept : List KeptItem) (n : ℕ) (d : KeptItem) (within : n < length ke
   unfolding body_from
   turn-stops insns e stops =
       let body = map seen kept in
-      ap (λ (x : List Item). told (all_of (item_in body) (take n body) x >>= λ more. Ok (insns ++ more))) (drop_next kept n d within)
+      ap (λ (x : List Item). told (all_of (item_in body) (take n body) x >>= λ more. Ok (insns ++ more))) (drop-map_seen kept n d within)
       ∙ from-stop (item_in body) (take n body) (drop (n + 1) body) (seen (get_or kept n d)) insns e stops
-
-pub items-gone : (kept : List KeptItem) (n : ℕ) → length kept ≤ n → drop n (map seen kept) ≡ []
-items-gone kept n past = drop_of_length-le (map seen kept) (omega (arith, length-map kept seen))
 
 -- an item that is read gives as many instructions as it is
 code_grows : (before : List Item) (x : List ℕ) (k : ℕ) (found : Result Insn ReadKind) (insns new : List Insn)

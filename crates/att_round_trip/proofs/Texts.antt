@@ -1,10 +1,9 @@
 -- The text of a function with a printed instruction is read as a function with that instruction.
 use Rattle.std.proofs.Common.{◌≡◌, ◌≢◌, inl, ℕ, zero, suc, ◌-◌, ◌<◌, ◌≤◌, ◌==◌, eqb, Bool, true, false, ◌||◌, not, cond, nat_lt, List, [], ◌∷◌, ◌++◌, append-nil, append_assoc, length, get_or, Option, Some, Ok, slice_get, codes, refl, sym, ◌∙◌, ap, subst, arith}
-use Rattle.std.specs.List.{AllZip, filter, list_all, list_any}
+use Rattle.std.specs.List.{filter, list_all, list_any}
 use Rattle.std.specs.Str.{IsAscii, bytes_eq}
 use Rattle.std.specs.Str.Lines.{lines, strip_carriage_return}
 use Rattle.std.proofs.lemmas.Bool.Decides.{nat_tests}
-use Rattle.std.proofs.lemmas.Option.{same_Some}
 use Rattle.std.proofs.lemmas.Slice.Eq.{bytes_eq-Decides}
 use Rattle.std.proofs.lemmas.Str.{IsAscii-append, IsUtf8-from_ascii}
 use Rattle.outcomes.specs.Firsts.{◌>>=◌, all_of}
@@ -28,12 +27,11 @@ use Rattle.att_statements.proofs.StatementTexts.{looked-up}
 use Rattle.att_statements.specs.ReadingStatements.{four_in, insn_with, is_repeated_return, next_part, operands_of, shown_of, statement_of}
 use Rattle.att_statements.specs.Statements.{IsInsnText, LeadsTo}
 use Rattle.att_bodies.specs.Body.{IsTarget, ends_function, is_code, is_directive}
-use Rattle.att_bodies.specs.Functions.{Spells}
 use Rattle.att_bodies.specs.Reading.{behind_body, closed_by, extent_of, inside_of, insns_of, read_extent, target_of}
-use Rattle.text_lines.specs.Kinds.{line_number}
 use Rattle.att_reader.proofs.ClosedTexts.{function-closed}
 use Rattle.att_reader.proofs.TextLaws.{text-function}
 use Rattle.att_reader.specs.FunctionText.{IsFunctionText, IsLegible}
+use Rattle.att_reader.proofs.ClosedTexts.{spelled-each}
 use Rattle.att_reader.specs.Reading.{insns_of_text, told}
 use Rattle.insn_text.specs.InsnText.{insn_text}
 use Rattle.att_round_trip.specs.RoundTrip.{IsReadBack, return_behind}
@@ -258,15 +256,6 @@ text-spells t j p read =
     text-function text (codes "f") (record { name = codes "f"; insns = j ∷ return_behind ∷ []; pool = [] }) (legible t p) (ap told spelled) refl refl
 
 -- the instructions of a text
-
-spelled-each : (IsInsn : List ℕ → ℕ → Insn → Type 0) (P : Insn → Type 0) → ((x : List ℕ) (line : ℕ) (i : Insn) → IsInsn x line i → P i)
-    → (its : List Item) (insns : List Insn) → AllZip (Spells IsInsn) its insns → (k : ℕ) (i : Insn) → slice_get insns k ≡ Some i → P i
-spelled-each IsInsn P each [] [] read k i there = cc
-spelled-each IsInsn P each [] (j ∷ js) read k i there = absurd read
-spelled-each IsInsn P each (item ∷ its) [] read k i there = absurd read
-spelled-each IsInsn P each (Label name line ∷ its) (j ∷ js) read k i there = absurd read.0
-spelled-each IsInsn P each (Statement x line ∷ its) (j ∷ js) read zero i there = subst P (same_Some j i there) (each x (line_number line) j read.0)
-spelled-each IsInsn P each (Statement x line ∷ its) (j ∷ js) read (suc k) i there = spelled-each IsInsn P each its js read.1 k i there
 
 -- Each instruction of a function that a text spells, but a jump, is read back.
 pub read-back : (text name : List ℕ) (f : Function) (k : ℕ) (i : Insn) → IsFunctionText text name f → slice_get f.insns k ≡ Some i → list_any is_target i.args ≡ false → IsReadBack i

@@ -8,7 +8,7 @@ use Rattle.text_lines.specs.Words.{IsName, is_name, IsPadded, prefix_of, behind_
 use Rattle.text_lines.specs.Lines.{Item, Label, Statement, is_visible, IsUncommented, IsLabelled, AreSpelled, IsLine}
 use Rattle.text_lines.specs.Cutting.{visible_part, colon_behind, label_at, statement_items, items_by, items_from, items_left}
 use Rattle.text_lines.proofs.Prefixes.{prefix-whole}
-use Rattle.text_lines.proofs.Trimming.{prefix-only, prefix-passes, behind-stops, trim-known, trim-only}
+use Rattle.text_lines.proofs.Trimming.{prefix-only, prefix-passes, behind-stops, no_push, trim-known, trim-only}
 
 -- names
 
@@ -106,10 +106,6 @@ none-label : (text : List ℕ) → label_at text ≡ None → (name rest : List 
 none-label text none name rest h = let e = label-only text name rest h in cc
 
 -- statements
-
-no_push : {P : Type 0} (front : List ℕ) (b : ℕ) → [] ≡ front ++ b ∷ [] → P
-no_push [] b e = cc
-no_push (f ∷ fs) b e = cc
 
 blank_padded : (text : List ℕ) → list_all is_blank text ≡ true → IsPadded text []
 blank_padded text h =

@@ -120,7 +120,7 @@ trim_end-nil [] h = refl
 trim_end-nil (x ∷ xs) h =
     elim (list_all is_blank (x ∷ xs)) as (λ (t : Bool). cond t [] (x ∷ trim_end xs) ≡ [] → t ≡ true) [ true ↦ λ e. refl | false ↦ λ e. cc ] h
 
-no_push : {P : Type 0} (front : List ℕ) (b : ℕ) → [] ≡ front ++ b ∷ [] → P
+pub no_push : {P : Type 0} (front : List ℕ) (b : ℕ) → [] ≡ front ++ b ∷ [] → P
 no_push [] b e = cc
 no_push (f ∷ fs) b e = cc
 
