@@ -3,10 +3,9 @@ ghost use Rattle.std.specs.Prelude.{◌≡◌, ℕ, ◌<◌, ◌≤◌, ◌↔�
 ghost use Rattle.std.specs.List.{AllByRecursion};
 ghost use Rattle.node_forms.specs.Sums.{SameWord};
 ghost use Rattle.linear_forms.specs.Combinations.{IsAt, IsCombination, weighted};
-ghost use Rattle.linear_forms.specs.Places.{HasAtoms, IsAmong, word_at};
+ghost use Rattle.linear_forms.specs.Places.{word_at};
 
-use crate::places::{Place, add_atoms, word_of};
-use indexmap::IndexSet;
+use crate::places::{Place, places_of, word_of};
 use node_forms::Form;
 use outcomes::Memory;
 use scalar_ops::low_bits;
@@ -27,21 +26,6 @@ pub fn combines(alloc: Global, target: &Form, parts: &[(u64, Form)]) -> Result<b
         }
     }
     Ok(true)
-}
-
-/// The places of the target and of the parts.
-fn places_of(alloc: Global, target: &Form, parts: &[(u64, Form)]) -> Result<IndexSet<Place>, Memory>
-    ensures constant { IfOk result (λ places. IsAmong places.keys Place.Constant) }
-    ensures target { IfOk result (λ places. HasAtoms places.keys target.now) }
-    ensures parts { IfOk result (λ places. AllByRecursion (λ p. HasAtoms places.keys p.1) parts.now) }
-{
-    let mut places = IndexSet::new(alloc);
-    places.insert(Place::Constant)?;
-    add_atoms(&mut places, target)?;
-    for (_, part) in parts {
-        add_atoms(&mut places, part)?;
-    }
-    Ok(places)
 }
 
 /// Whether the sum of the parts has the target's word at a place.

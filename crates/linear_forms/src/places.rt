@@ -1,5 +1,6 @@
 //! The places at which forms have words.
 ghost use Rattle.std.specs.Prelude.{◌≡◌, ℕ, OnOk, IfOk, length, slice_index};
+ghost use Rattle.std.specs.List.{AllByRecursion};
 ghost use Rattle.node_forms.specs.Sums.{listed_coefficient};
 ghost use Rattle.linear_forms.specs.Places.{HasAtoms, IsAmong, word_at};
 
@@ -7,12 +8,59 @@ use indexmap::IndexSet;
 use node_forms::Form;
 use node_values::NodeId;
 use outcomes::Memory;
+use std::alloc::Global;
 
 /// A place of a form: one of its atoms, or the constant.
 #[derive(Clone, Copy, Debug, PartialEq, Eq, Hash)]
 pub enum Place {
     Atom(NodeId),
     Constant,
+}
+
+/// What has a form: the form itself, or a form with its weight.
+pub trait HasForm {
+    ghost use Rattle.node_forms.specs.declared.form.Form.{Form};
+
+    ghost form_of: { Self → Form };
+
+    fn form(&self) -> &Form
+        ensures { result.now ≡ form_of self.now };
+}
+
+impl HasForm for Form {
+    ghost form_of = { λ form. form };
+
+    fn form(&self) -> &Form {
+        self
+    }
+}
+
+impl HasForm for (u64, Form) {
+    ghost form_of = { λ part. part.1 };
+
+    fn form(&self) -> &Form {
+        let (_, form) = self;
+        form
+    }
+}
+
+/// The places of the target and of the parts.
+pub fn places_of<P: HasForm>(
+    alloc: Global,
+    target: &Form,
+    parts: &[P],
+) -> Result<IndexSet<Place>, Memory>
+    ensures constant { IfOk result (λ places. IsAmong places.keys Place.Constant) }
+    ensures target { IfOk result (λ places. HasAtoms places.keys target.now) }
+    ensures parts { IfOk result (λ places. AllByRecursion (λ part. HasAtoms places.keys (P.form_of part)) parts.now) }
+{
+    let mut places = IndexSet::new(alloc);
+    places.insert(Place::Constant)?;
+    add_atoms(&mut places, target)?;
+    for part in parts {
+        add_atoms(&mut places, part.form())?;
+    }
+    Ok(places)
 }
 
 /// The word of a form at a place: the coefficient of the atom, or the constant.
@@ -38,7 +86,7 @@ fn coefficient(atoms: &[(NodeId, u64)], atom: NodeId) -> u64
 }
 
 /// Adds the atoms of a form to the places.
-pub fn add_atoms(places: &mut IndexSet<Place>, form: &Form) -> Result<(), Memory>
+fn add_atoms(places: &mut IndexSet<Place>, form: &Form) -> Result<(), Memory>
     ensures kept { OnOk result ((place : Place) → IsAmong places.old.keys place → IsAmong places.new.keys place) }
     ensures atoms { OnOk result (HasAtoms places.new.keys form.now) }
 {

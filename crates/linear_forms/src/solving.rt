@@ -3,13 +3,12 @@ ghost use Rattle.std.specs.Prelude.{◌≡◌, ℕ, ◌+◌, ◌<◌, ◌≤◌,
 ghost use Rattle.std.specs.List.{AllByRecursion, AllZip, zip};
 ghost use Rattle.node_forms.specs.Sums.{SameWord};
 ghost use Rattle.linear_forms.specs.Combinations.{IsAt, IsCombination};
-ghost use Rattle.linear_forms.specs.Places.{HasAtoms, IsAmong, IsRowOf, IsUnit};
+ghost use Rattle.linear_forms.specs.Places.{IsRowOf, IsUnit};
 ghost use Rattle.linear_forms.specs.MatrixRows.{word};
 
 use crate::elimination::eliminate;
 use crate::matrix_row::MatrixRow;
-use crate::places::{Place, add_atoms, word_of};
-use indexmap::IndexSet;
+use crate::places::{Place, places_of, word_of};
 use node_forms::Form;
 use outcomes::Memory;
 use scalar_ops::low_bits;
@@ -39,21 +38,6 @@ pub fn solve(alloc: Global, target: &Form, parts: &[Form]) -> Result<Option<Vec<
             Ok(Some(low_words(alloc, target.w, weights)?))
         }
     }
-}
-
-/// The places of the target and of the parts.
-fn places_of(alloc: Global, target: &Form, parts: &[Form]) -> Result<IndexSet<Place>, Memory>
-    ensures constant { IfOk result (λ places. IsAmong places.keys Place.Constant) }
-    ensures target { IfOk result (λ places. HasAtoms places.keys target.now) }
-    ensures parts { IfOk result (λ places. AllByRecursion (HasAtoms places.keys) parts.now) }
-{
-    let mut places = IndexSet::new(alloc);
-    places.insert(Place::Constant)?;
-    add_atoms(&mut places, target)?;
-    for part in parts {
-        add_atoms(&mut places, part)?;
-    }
-    Ok(places)
 }
 
 /// A row for each part: its words at the places, and behind them less 1 at its own number.
