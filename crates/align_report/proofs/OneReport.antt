@@ -1,6 +1,5 @@
 -- There is one report at most.
-use Rattle.std.proofs.Common.{◌≡◌, ◌⊎◌, inl, inr, ℕ, ◌+◌, ◌^◌, ◌<◌, ◌≤◌, List, [], ◌∷◌, ◌++◌, Err, refl, sym, ◌∙◌, ap, subst, arith}
-use Rattle.std.proofs.lemmas.Bool.{cases_eq, cases_lt}
+use Rattle.std.proofs.Common.{◌≡◌, inl, inr, ℕ, ◌+◌, ◌^◌, ◌<◌, ◌≤◌, List, [], ◌∷◌, ◌++◌, Err, refl, sym, ◌∙◌, ap, subst, arith}
 use Rattle.insn_ops.specs.declared.output.Output.{Output}
 use Rattle.insn_table.specs.declared.insn.Function.{Function}
 use Rattle.runs.specs.Run.{Run}
@@ -8,7 +7,6 @@ use Rattle.runs.specs.declared.ends.RunEnd.TheVariants.{Returned, Faulted, Unset
 use Rattle.machine.specs.Machine.{Machine}
 use Rattle.admission.specs.declared.admission.Admission.{Admission}
 use Rattle.tests_text.specs.declared.test.Test.{Test}
-use Rattle.tests_text.specs.declared.test.Tests.{Tests}
 use Rattle.test_states.specs.declared.refusal.LoadRefusal.{LoadRefusal}
 use Rattle.test_states.specs.declared.refusal.LoadRefusal.TheVariants.{ByteOutside, Memory, NotAdmitted, RegionsLarge}
 use Rattle.test_states.specs.Loads.{IsRefused}
@@ -16,7 +14,7 @@ use Rattle.test_states.specs.Starts.{IsLoadable, start_of}
 use Rattle.test_states.proofs.Loading.{gives_refusal, gives_state}
 use Rattle.align_report.specs.Changes.{ArePieces, IsPiece, piece_lines}
 use Rattle.align_report.specs.Outputs.{output_lines}
-use Rattle.align_report.specs.RunReport.{AreDetails, AreTestReports, IsRunReport, IsTestReport, Ran, Refused, end_name, refusal_name, test_line, test_run}
+use Rattle.align_report.specs.RunReport.{AreDetails, AreTestReports, IsTestReport, Ran, Refused, end_name, refusal_name, test_line, test_run}
 
 module _ (old new : ℕ → ℕ) where
   no_piece : (from at n : ℕ) → from ≤ at → IsPiece old new at n → ((x : ℕ) → from ≤ x → x < 2 ^ 64 → old x ≡ new x) → ⊥

@@ -2,15 +2,15 @@
 use Rattle.std.proofs.Common.{◌≡◌, ℕ, ◌+◌, ◌<◌, ◌≤◌, List, [], ◌∷◌, ◌++◌, length, drop, get_or, Some, sym, ◌∙◌, ap, slice_get, unwrap_or, add-one, append_assoc}
 use Rattle.std.proofs.Math.Seq.{drop-cons}
 use Rattle.std.proofs.lemmas.List.{drop_all, append-nil}
-use Rattle.admission_text.specs.Names.{names_64}
+use Rattle.register_names.specs.Names.{register_names}
 use Rattle.align_report.specs.PlainReport.{register_line, register_lines}
 
-lines-first : (n v : ℕ) (vs name : List ℕ) → slice_get names_64 n ≡ Some name → register_lines n (v ∷ vs) ≡ register_line name v ++ register_lines (n + 1) vs
+lines-first : (n v : ℕ) (vs name : List ℕ) → slice_get (register_names 64) n ≡ Some name → register_lines n (v ∷ vs) ≡ register_line name v ++ register_lines (n + 1) vs
 unfolding register_lines
 lines-first n v vs name named = ap (λ o. register_line (unwrap_or o []) v ++ register_lines (n + 1) vs) named
 
 -- the line of register n, and those behind it
-pub lines-more : (regs out more all name : List ℕ) (n : ℕ) → n < length regs → slice_get names_64 n ≡ Some name
+pub lines-more : (regs out more all name : List ℕ) (n : ℕ) → n < length regs → slice_get (register_names 64) n ≡ Some name
     → more ≡ out ++ register_line name (get_or regs n 0) → out ++ register_lines n (drop n regs) ≡ all → more ++ register_lines (n + 1) (drop (n + 1) regs) ≡ all
 lines-more regs out more all name n low named pushed so_far =
     ap (λ t. t ++ register_lines (n + 1) (drop (n + 1) regs)) pushed

@@ -1,19 +1,16 @@
 -- What a run from the start state of a test may change, and the reports of tests one after another.
-use Rattle.std.proofs.Common.{◌≡◌, ◌⊎◌, inl, inr, ℕ, zero, suc, ◌+◌, ◌^◌, ◌<◌, ◌≤◌, Bool, true, false, ◌&&◌, ◌||◌, nat_lt, List, [], ◌∷◌, ◌++◌, append_assoc, append-nil, Result, Ok, Err, OnOk, length, slice_index, refl, sym, ◌∙◌, ap, subst, arith}
+use Rattle.std.proofs.Common.{◌≡◌, inl, inr, ℕ, ◌+◌, ◌^◌, ◌<◌, Bool, true, false, ◌&&◌, ◌||◌, nat_lt, List, [], ◌∷◌, ◌++◌, append_assoc, append-nil, Result, Ok, Err, OnOk, length, slice_index, refl, sym, ◌∙◌, ap, subst, arith}
 use Rattle.std.specs.List.{list_any}
-use Rattle.std.proofs.lemmas.Bool.{cases_Bool, false≢true}
+use Rattle.std.proofs.lemmas.Bool.{false≢true}
 use Rattle.std.proofs.lemmas.Bool.Decides.{nat_tests}
-use Rattle.insn_ops.specs.declared.output.Output.{Output}
 use Rattle.outcomes.specs.declared.memory.Memory.{Memory}
 use Rattle.insn_table.specs.declared.insn.Function.{Function}
-use Rattle.runs.specs.Run.{run_of}
 use Rattle.runs.specs.declared.ends.RunEnd.{RunEnd}
 use Rattle.runs.specs.declared.ends.RunEnd.TheVariants.{Returned, Faulted, Unset, Running}
 use Rattle.memory_spans.specs.declared.region.Region.{Region}
 use Rattle.machine.specs.Frame.{SameUnwritable, has_address, is_writable}
 use Rattle.machine.specs.Machine.{Machine}
 use Rattle.memory_spans.specs.Memory.{offset_from}
-use Rattle.machine.specs.Step.{step_of}
 use Rattle.admission.specs.declared.admission.Admission.{Admission}
 use Rattle.admission.specs.Admitted.{regions_of}
 use Rattle.tests_text.specs.declared.test.Test.{Test}
@@ -24,7 +21,7 @@ use Rattle.test_states.specs.Loads.{IsRefused}
 use Rattle.test_states.specs.Starts.{IsLoadable, start_of}
 use Rattle.align_report.specs.Changes.{piece_lines}
 use Rattle.align_report.specs.Outputs.{output_lines}
-use Rattle.align_report.specs.RunReport.{AreChanges, AreDetails, AreTestReports, IsTestReport, Ran, Refused, end_name, refusal_name, test_line, test_run}
+use Rattle.align_report.specs.RunReport.{AreDetails, AreTestReports, IsTestReport, Ran, Refused, end_name, refusal_name, test_line, test_run}
 use Rattle.align_report.specs.Telling.{AppendsTest}
 use Rattle.align_report.specs.Writing.{AppendsChanges, AreSameOutside}
 

@@ -4,7 +4,8 @@
 -- its start into pieces of 32 bytes, of which the last may be shorter.
 use Rattle.std.specs.Prelude.{◌≡◌, ◌⊎◌, ℕ, ◌+◌, ◌^◌, ◌<◌, ◌≤◌, List, [], ◌∷◌, ◌++◌, codes}
 use Rattle.memory_spans.specs.Memory.{bytes_at}
-use Rattle.align_report.specs.Values.{bytes_text, value_text}
+use Rattle.text_parts.specs.Bytes.{bytes_text}
+use Rattle.text_parts.specs.Numbers.{value_text}
 
 -- no byte from an address on, up to another, has changed
 abbrev pub SameFrom : (ℕ → ℕ) → (ℕ → ℕ) → ℕ → ℕ → Type 0

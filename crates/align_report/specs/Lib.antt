@@ -1,4 +1,3 @@
-pub mod Values
 pub mod Outputs
 pub mod Changes
 pub mod RunReport

@@ -1,15 +1,16 @@
 -- The lines of the live outputs.
-use Rattle.std.specs.Prelude.{ℕ, ◌/◌, ◌%◌, ◌^◌, ◌==◌, List, [], ◌∷◌, ◌++◌, codes, decimal, get_or, slice_index, take, if◌then◌else◌}
+use Rattle.std.specs.Prelude.{ℕ, ◌/◌, ◌%◌, ◌^◌, List, [], ◌∷◌, ◌++◌, codes, get_or, slice_index, take}
 use Rattle.insn_ops.specs.declared.output.Output.{Output}
 use Rattle.insn_ops.specs.declared.output.Output.TheVariants.{Reg, Vec}
 use Rattle.machine.specs.Machine.{Machine}
-use Rattle.admission_text.specs.Names.{general_names}
-use Rattle.align_report.specs.Values.{bytes_text, value_text}
+use Rattle.register_names.specs.Names.{register_names}
+use Rattle.text_parts.specs.Bytes.{bytes_text}
+use Rattle.text_parts.specs.Numbers.{value_text}
 
 -- an output as an admission names it
 abbrev pub output_name : Output → List ℕ
-output_name (Reg n w) = codes "%" ++ get_or (general_names w) n []
-output_name (Vec n w) = codes "%" ++ (if w == 128 then codes "xmm" else codes "ymm") ++ decimal n
+output_name (Reg n w) = codes "%" ++ get_or (register_names w) n []
+output_name (Vec n w) = codes "%" ++ get_or (register_names w) n []
 
 -- what it holds: the low bits of a general register as a value, the first bytes of a vector as bytes
 abbrev pub output_value : Machine → Output → List ℕ

@@ -3,9 +3,9 @@ use Rattle.std.specs.Prelude.{◌≡◌, ℕ, ◌+◌, ◌==◌, List, [], ◌�
 use Rattle.insn_ops.specs.declared.side.Side.{Side}
 use Rattle.insn_ops.specs.declared.side.Side.TheVariants.{Left, Right}
 use Rattle.insn_table.specs.declared.insn.Insn.{Insn}
-use Rattle.admission_text.specs.Names.{names_64}
+use Rattle.register_names.specs.Names.{register_names}
 use Rattle.plain_functions.specs.Verdict.{AreEquivalentWithin, ReturnDifferently}
-use Rattle.align_report.specs.Values.{value_text}
+use Rattle.text_parts.specs.Numbers.{value_text}
 
 -- the report of functions that are equivalent within a bound
 unfoldable pub equivalent_report : ℕ → List ℕ
@@ -18,7 +18,7 @@ register_line name v = if v == 0 then [] else codes "reg " ++ name ++ codes " " 
 -- the lines of registers, by number from n on
 unfoldable pub register_lines : ℕ → List ℕ → List ℕ
 register_lines n [] = []
-register_lines n (v ∷ vs) = register_line (unwrap_or (slice_get names_64 n) []) v ++ register_lines (n + 1) vs
+register_lines n (v ∷ vs) = register_line (unwrap_or (slice_get (register_names 64) n) []) v ++ register_lines (n + 1) vs
 
 -- what reports call a side
 abbrev pub side_name : Side → List ℕ

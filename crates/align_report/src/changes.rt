@@ -4,13 +4,13 @@ ghost use Rattle.machine.specs.Kept.{pure_of};
 ghost use Rattle.memory_spans.specs.Memory.{bytes_at};
 ghost use Rattle.test_states.specs.Ranges.{AreApart, IsRange, is_covered};
 ghost use Rattle.align_report.specs.Changes.{ChangedFrom, EndsRun, piece_line};
-ghost use Rattle.align_report.specs.Values.{bytes_text};
+ghost use Rattle.text_parts.specs.Bytes.{bytes_text};
 ghost use Rattle.align_report.specs.Writing.{AppendsChanges, AppendsPieces, AreSameOutside};
 
-use crate::values::{push_byte, push_value};
 use machine::State;
 use std::alloc::AllocError;
 use test_states::Range;
+use text_parts::{push_byte, push_value};
 
 // How many bytes a piece has at most.
 const MOST_BYTES: u128 = 32;

@@ -22,7 +22,6 @@ mod plain_report;
 mod refusals;
 mod run;
 mod usage;
-mod values;
 
 pub use law::run_report_law;
 pub use plain_report::{different_text, equivalent_text, side_name};

@@ -2,11 +2,11 @@
 ghost use Rattle.std.specs.Prelude.{◌≡◌, ◌++◌, length, string_bytes, IfOk, OnOk};
 ghost use Rattle.align_report.specs.PlainReport.{different_report, differs_line, equivalent_report, register_line, register_lines, returned_line, side_name};
 
-use crate::outputs::name_64;
-use crate::values::push_value;
 use insn_ops::Side;
 use plain_functions::Counterexample;
+use register_names::name_of;
 use std::alloc::{AllocError, Global};
+use text_parts::push_value;
 
 /// The report of two functions that are equivalent within a bound.
 #[tactic(auto, unfolding(crate::specs::PlainReport::equivalent_report))]
@@ -37,7 +37,7 @@ fn push_registers(out: &mut String, regs: &[u64]) -> Result<(), AllocError>
     ensures { OnOk result (string_bytes out.new ≡ string_bytes out.old ++ register_lines 0 regs.now) }
 {
     for n in 0..16u8 {
-        push_register(out, name_64(n), regs[n as usize])?;
+        push_register(out, name_of(64, n), regs[n as usize])?;
     }
     Ok(())
 }

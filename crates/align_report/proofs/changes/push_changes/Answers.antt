@@ -1,4 +1,4 @@
-use Rattle.std.proofs.Common.{◌≡◌, ◌+◌, ◌∷◌, ◌<◌, ◌≤◌, List, [], drop, get_or, length, string_bytes, subst, arith}
+use Rattle.std.proofs.Common.{◌+◌, List, drop, get_or, string_bytes, subst, arith}
 use Rattle.std.proofs.lemmas.List.{drop_all}
 use Rattle.machine.specs.Kept.{pure_of}
 use Rattle.test_states.specs.declared.range.Range.{Range}

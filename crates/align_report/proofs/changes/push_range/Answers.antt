@@ -1,4 +1,4 @@
-use Rattle.std.proofs.Common.{◌≡◌, ℕ, ◌+◌, ◌-◌, ◌<◌, ◌≤◌, min, string_bytes, subst, arith, rules}
+use Rattle.std.proofs.Common.{◌≡◌, ℕ, ◌+◌, ◌-◌, ◌<◌, min, string_bytes, subst, arith, rules}
 use Rattle.machine.specs.Kept.{pure_of}
 use Rattle.align_report.proofs.Pieces.{appends_piece, appends_skip, piece_of}
 use Rattle.align_report.proofs.changes.push_range.Goals as goal

@@ -1,7 +1,7 @@
 use Rattle.std.proofs.Common.{codes}
 use Rattle.align_report.proofs.RegisterLines.{five_pieces}
 use Rattle.align_report.specs.PlainReport.{differs_line}
-use Rattle.align_report.specs.Values.{value_text}
+use Rattle.text_parts.specs.Numbers.{value_text}
 use Rattle.align_report.proofs.plain_report.push_differs.Goals as goal
 
 pub returns : goal.returns

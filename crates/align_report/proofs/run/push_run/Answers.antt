@@ -1,4 +1,4 @@
-use Rattle.std.proofs.Common.{◌≡◌, ℕ, ◌<◌, ◌^◌, ◌++◌, List, string_bytes, sym, ◌∙◌, ap, subst}
+use Rattle.std.proofs.Common.{◌≡◌, ◌++◌, List, string_bytes, sym, ◌∙◌, ap, subst}
 use Rattle.insn_ops.specs.declared.output.Output.{Output}
 use Rattle.runs.specs.Run.{run_of}
 use Rattle.runs.specs.declared.ends.RunEnd.{RunEnd}

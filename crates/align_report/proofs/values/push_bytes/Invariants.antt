@@ -1,6 +1,0 @@
-use Rattle.std.proofs.Common.{◌≡◌, ◌++◌, string_bytes, take}
-use Rattle.align_report.specs.Values.{bytes_text}
-use Rattle.align_report.proofs.values.push_bytes.Given as goal
-
-abbrev pub invariant-loop-byte : goal.invariant-loop-byte
-invariant-loop-byte l = string_bytes l.out ≡ string_bytes l.initial.out ++ bytes_text (take l.byte-index l.bytes)
