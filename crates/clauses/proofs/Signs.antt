@@ -43,6 +43,7 @@ some_same a b h = cc
 none_some : (b : Bool) → None ≡ Some b → ⊥
 none_some b h = cc
 
+-- a clause that is met has a variable with the sign of the assignment
 pub sign_of_met : (v : ℕ → Bool) (c : List Lit) → IsClause c → MeetsClause v c → (x : ℕ) × (sign_in c x ≡ Some (v x))
 sign_of_met v [] h met = cc
 sign_of_met v (l ∷ ls) h met = elim (cases_Bool (literal_value v l)) [
@@ -54,6 +55,7 @@ sign_of_met v (l ∷ ls) h met = elim (cases_Bool (literal_value v l)) [
       (found.0, rw (ne_eqb l.var found.0 other) found.1)
 ]
 
+-- and the other way round
 pub met_of_sign : (v : ℕ → Bool) (c : List Lit) (x : ℕ) → sign_in c x ≡ Some (v x) → MeetsClause v c
 met_of_sign v [] x h = absurd (none_some (v x) h)
 met_of_sign v (l ∷ ls) x h = elim (cases_Bool (l.var == x)) [

@@ -19,9 +19,11 @@ pub two_formed : (widths : ℕ → ℕ) (operator : Operator) (w : ℕ) (x y : E
     → IsFormedAt widths (operator_width operator w) (Two operator w x y)
 two_formed widths operator w x y h j = record { formed = (h.width, j.width, h.formed, j.formed); width = refl }
 
+-- a leaf, of its own width
 pub leaf_formed : (widths : ℕ → ℕ) (i : ℕ) → IsFormedAt widths (widths i) (Leaf i)
 leaf_formed widths i = record { formed = tt; width = refl }
 
+-- a number that is a word
 pub number_formed : (widths : ℕ → ℕ) (w v : ℕ) → 0 < w → w ≤ 64 → v < 2 ^ w → IsFormedAt widths w (Number w v)
 number_formed widths w v some most below = record { formed = (some, most, below); width = refl }
 
@@ -29,10 +31,11 @@ number_formed widths w v some most below = record { formed = (some, most, below)
 pub cut_formed : (widths : ℕ → ℕ) (m k n : ℕ) (x : Expr) → IsFormedAt widths m x → 0 < n → k + n ≤ m → IsFormedAt widths n (Cut x k n)
 cut_formed widths m k n x h some inside = record { formed = (some, omega (arith, h.width), h.formed); width = refl }
 
+-- the destination, shifted by a count in range
 shift_formed : (widths : ℕ → ℕ) (shift : Shift) (w k : ℕ) → widths 0 ≡ w → 0 < k → k < w → IsFormedAt widths w (Shifted shift w (Leaf 0) k)
 shift_formed widths shift w k e some inside = record { formed = (e, some, inside, tt); width = refl }
 
--- powers of two
+-- 1 is a word of every width
 one_below : (w : ℕ) → 0 < w → 1 < 2 ^ w
 one_below w h = let two : 2 ^ 1 ≤ 2 ^ w = power_grows 1 w h in omega arith
 
@@ -41,6 +44,7 @@ words_formed : (widths : ℕ → ℕ) (operator : Operator) (w : ℕ) → widths
     → IsFormedAt widths (operator_width operator w) (Two operator w (Leaf 0) (Leaf 1))
 words_formed widths operator w first second = record { formed = (first, second, tt, tt); width = refl }
 
+-- the values of the rows
 pub rows_formed : (op : Op) (w k : ℕ) → HasRowWidth op w k → IsFormedAt (row_widths op w) w (row_expr op w k)
 rows_formed ops.Add w k h = words_formed _ Plus w refl refl
 rows_formed ops.Sub w k h = words_formed _ Minus w refl refl
@@ -122,6 +126,7 @@ module _ (w : ℕ) (bytes : 8 ≤ w) where
   below_formed : (i j : ℕ) → IsFormedAt W 1 (Two Below w (Leaf i) (Leaf j))
   below_formed i j = record { formed = (refl, refl, tt, tt); width = refl }
 
+  -- the carry flag
   pub carry_formed : (op : Op) (k : ℕ) → HasRowWidth op w k → IsFormedRule w (carry_rule op w k)
   carry_formed ops.Add k h = below_formed 0 1
   carry_formed ops.Sub k h = below_formed 1 2
@@ -136,6 +141,7 @@ module _ (w : ℕ) (bytes : 8 ≤ w) where
   carry_formed ops.Sar k h = right_carry_formed k h.0 h.1
   carry_formed _ k h = tt
 
+  -- the overflow flag
   pub overflow_formed : (op : Op) (k : ℕ) → HasRowWidth op w k → IsFormedRule w (overflow_rule op w k)
   overflow_formed ops.Add k h = sum_overflow_formed
   overflow_formed ops.Inc k h = sum_overflow_formed
@@ -153,6 +159,7 @@ module _ (w : ℕ) (bytes : 8 ≤ w) where
   overflow_formed ops.Sar k h = at_one_formed k _ (bit_of 0 (omega arith))
   overflow_formed _ k h = tt
 
+  -- a flag that is read off the result
   result_formed : (op : Op) (x : Expr) → IsFormedAt W 1 x → IsFormedRule w (result_rule op x)
   result_formed ops.Add x h = h
   result_formed ops.Sub x h = h
@@ -175,18 +182,22 @@ module _ (w : ℕ) (bytes : 8 ≤ w) where
       two_formed W Xor 1 (parity_bit k) (Cut (Leaf 0) (suc k) 1) (parity_formed k (omega arith))
       (cut_formed W w (suc k) 1 (Leaf 0) (leaf_formed W 0) (omega arith) (omega arith))
 
+  -- the parity flag
   pub even_formed : (op : Op) → IsFormedRule w (result_rule op is_even)
   even_formed op =
       let bits : IsFormedAt W 1 (parity_bit 7) = parity_formed 7 (omega arith) in
       result_formed op is_even (record { formed = (bits.width, bits.formed); width = refl })
 
+  -- the zero flag
   pub zero_formed : (op : Op) → w ≤ 64 → IsFormedRule w (result_rule op (is_zero w))
   zero_formed op most =
       result_formed op (is_zero w) (two_formed W Equal w (Leaf 0) (Number w 0) (leaf_formed W 0) (number_formed W w 0 (omega arith) most (pow_pos w)))
 
+  -- the sign flag
   pub negative_formed : (op : Op) → IsFormedRule w (result_rule op (is_negative w))
   negative_formed op = result_formed op (is_negative w) (top_formed (Leaf 0) (leaf_formed W 0))
 
+-- the conditions, over flags of one bit
 pub conds_formed : (c : Cond) → IsFormedAt (λ i. 1) 1 (cond_expr c)
 conds_formed conds.Ne = record { formed = (refl, tt); width = refl }
 conds_formed conds.Ae = record { formed = (refl, tt); width = refl }
@@ -201,6 +212,7 @@ conds_formed conds.No = record { formed = (refl, tt); width = refl }
 conds_formed conds.Np = record { formed = (refl, tt); width = refl }
 conds_formed _ = record { formed = tt; width = refl }
 
+-- the laws of rows and of flags
 pub ruleset formed_rows = (rows_formed, computed_widths)
 
 pub ruleset formed_flags = (carry_formed, overflow_formed, even_formed, zero_formed, negative_formed)

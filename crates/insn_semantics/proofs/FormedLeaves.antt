@@ -6,6 +6,7 @@ use Rattle.std.proofs.lemmas.Bool.{cases_Bool}
 use Rattle.insn_semantics.specs.Exprs.{Expr, Leaf, Number, Two, Not, Shifted, Joined, Cut, Extended, Choice, Let, leaves_of, with_leaf}
 use Rattle.insn_semantics.specs.Formed.{IsFormed, IsFormedAt, expr_width}
 
+-- what holds of two lists together holds of each
 all_front : (P : ℕ → Type 0) (xs ys : List ℕ) → AllByRecursion P (xs ++ ys) → AllByRecursion P xs
 all_front P [] ys h = tt
 all_front P (x ∷ xs) ys h = (h.0, all_front P xs ys h.1)
@@ -37,6 +38,7 @@ record Keeps (widths others : ℕ → ℕ) (x : Expr) : Type 0 where
   width : expr_width others x ≡ expr_width widths x
   formed : IsFormed widths x → IsFormed others x
 
+-- by induction over the expression
 keeps : (widths others : ℕ → ℕ) (x : Expr) → Agree widths others x → Keeps widths others x
 keeps widths others (Leaf i) h = record { width = h.0; formed = λ f. tt }
 keeps widths others (Number w v) h = record { width = refl; formed = λ f. f }
@@ -80,6 +82,7 @@ keeps widths others (Let i x y) h =
     (named_same widths others i (expr_width others x) (expr_width widths x) X.width (leaves_of y) (all_back P (leaves_of x) named h)) in
     record { width = Y.width; formed = λ f. (X.formed f.0, Y.formed f.1) }
 
+-- an expression that is formed over some leaves is formed over others of the same widths
 pub formed_by_leaves : (widths others : ℕ → ℕ) (n : ℕ) (x : Expr) → AllByRecursion (λ i. others i ≡ widths i) (leaves_of x)
     → IsFormedAt widths n x → IsFormedAt others n x
 formed_by_leaves widths others n x agree h =

@@ -171,6 +171,7 @@ low_half_formed i =
     (cut_formed (λ j. 64) 64 0 32 (Leaf i) (leaf_formed (λ j. 64) i) (omega arith) (omega arith))
     (zero_extended_formed (with_leaf (λ j. 64) 2 32) 32 64 (Leaf 2) (leaf_formed (with_leaf (λ j. 64) 2 32) 2) (omega arith) (omega arith))
 
+-- lanes have 8 to 64 bits
 least : (l : LaneWidth) → 8 ≤ bits l
 least Byte = omega arith
 least Word = omega arith
@@ -183,6 +184,7 @@ greatest Word = omega arith
 greatest Doubleword = omega arith
 greatest Quadword = omega arith
 
+-- the rows by lane
 lanes_formed : (op : LaneOp) (k : ℕ) → IsLaneRow op → IsFormedAt (λ j. lane_op_bits op) (lane_op_bits op) (lane_expr op k)
 lanes_formed (lanes.Padd l) k h = two_lanes (bits l) (least l) (greatest l) Plus
 lanes_formed (lanes.Psub l) k h = two_lanes (bits l) (least l) (greatest l) Minus
@@ -214,6 +216,7 @@ lanes_formed (lanes.Pmaxu l) k h = chosen_formed (bits l) (least l) (greatest l)
 lanes_formed (lanes.Pavg l) k h = average_formed (bits l) (least l) (greatest l) h
 lanes_formed (lanes.Pabs l) k h = magnitude_formed (bits l) (least l) (greatest l)
 
+-- lanes are widened to more bits
 wider : (l m : LaneWidth) → Widens l m → bits l < bits m
 wider Byte Word h = omega arith
 wider Byte Doubleword h = omega arith
@@ -331,6 +334,7 @@ masks_formed w h = elim h [
   | inr e ↦ subst (λ (n : ℕ). IsFormedAt B 32 (byte_mask n)) (sym e) mask_256_formed
 ]
 
+-- all rows of vectors
 pub vectors_formed : (op : VectorOp) (w k : ℕ) → IsVectorRow op w → IsFormedAt (λ j. leaf_bits op) (result_bits op) (vector_expr op w k)
 vectors_formed (ops.Lanewise op) w k h = lanes_formed op k h.1
 vectors_formed (ops.Moving op) w k h = moves_formed op h.1.0

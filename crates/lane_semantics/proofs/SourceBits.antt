@@ -17,12 +17,14 @@ either_bits : (n : ℕ) (t : Bool) (x y : Source) → HasBits n x → HasBits n 
 either_bits n true x y h j = h
 either_bits n false x y h j = j
 
+-- a half that a control selects
 selected_bits : (c j : ℕ) → HasBits 8 (selected_half c j)
 selected_bits c j =
     let half : Source = if nat_lt (c % 4) 2 then First 8 (16 * (c % 2) + j) else Second 8 (16 * (c % 2) + j) in
     either_bits 8 (nat_lt c 8) half Zero
     (either_bits 8 (nat_lt (c % 4) 2) (First 8 (16 * (c % 2) + j)) (Second 8 (16 * (c % 2) + j)) refl refl) tt
 
+-- the rows that move lanes
 move_bits : (op : MoveOp) (k i : ℕ) → HasBits (move_source_bits op) (move_source op k i)
 move_bits moves.Pslldq k i = either_bits 8 _ Zero (Second 8 _) tt refl
 move_bits moves.Psrldq k i = either_bits 8 _ (Second 8 _) Zero refl tt
@@ -39,6 +41,7 @@ move_bits moves.Inserti128 k i = either_bits 8 _ (Second 8 _) (First 8 _) refl r
 move_bits moves.Perm2i128 k i = selected_bits (four_bits k (4 * (i / 16))) (i % 16)
 move_bits _ k i = refl
 
+-- all rows of vectors
 pub sources_bits : (op : VectorOp) (k i j : ℕ) → HasBits (leaf_bits op) (row_source op k i j)
 sources_bits (ops.Lanewise op) k i zero = refl
 sources_bits (ops.Lanewise op) k i (suc j) = refl

@@ -49,6 +49,7 @@ module _ (ns : List Node) (n : Node) (absent : list_any (is_same_node n) ns ≡ 
       let there : list_any (is_same_node n) ns ≡ true = list_any_at (is_same_node n) ns i (Const 0 0) b (ap (is_same_node n) e ∙ same_as_itself n) in
       true≢false (sym there ∙ absent)
 
+  -- one more node, which the sheet did not have
   pub distinct_push : AreDistinct ns → AreDistinct (ns ++ n ∷ [])
   distinct_push distinct i j b c e = elim (cases_lt i (length ns)) [
     | inl first ↦ elim (cases_lt j (length ns)) [

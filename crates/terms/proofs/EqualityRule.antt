@@ -50,8 +50,10 @@ module _ (ns : List Node) (widths : List ℕ) (list : IsWidthList ns widths) (a 
   by_list : New (Const 1 (bit (c == 0))) ≡ unfolded ns (slice_index widths) (Eq a b)
   by_list = subst (λ f. New (Const 1 (bit (c == 0))) ≡ unfolded ns f (Eq a b)) (sym (same_widths ns widths list.1)) by_forms
 
+  -- forms with no difference
   pub equality_holds : c ≡ 0 → New (Const 1 1) ≡ unfolded ns (slice_index widths) (Eq a b)
   equality_holds h = ap (λ t. New (Const 1 (bit t))) (sym (eq-eqb c 0 h)) ∙ by_list
 
+  -- forms with another difference
   pub equality_fails : (c ≡ 0 → ⊥) → New (Const 1 0) ≡ unfolded ns (slice_index widths) (Eq a b)
   equality_fails h = ap (λ t. New (Const 1 (bit t))) (sym (ne_eqb c 0 h)) ∙ by_list

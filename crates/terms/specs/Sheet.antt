@@ -1,4 +1,4 @@
--- What a sheet keeps: nodes over earlier ones, their widths, each node once, and at most 65,536.
+-- Sheets with their widths, and what stands for a node.
 use Rattle.std.specs.Prelude.{◌≡◌, ℕ, ◌<◌, List, length}
 use Rattle.node_values.specs.declared.node.Node.{Node}
 use Rattle.node_values.specs.Nodes.{IsNode, node_width}
