@@ -23,6 +23,10 @@ kind_name kind.UnknownLabel = codes "unknown-label"
 kind_name kind.TooManyInsns = codes "too-many-insns"
 kind_name kind.FallsOff = codes "falls-off"
 
+-- what reports call the file of a command that takes one function
+abbrev pub lone_file : List ℕ
+lone_file = codes "left"
+
 -- a refusal at a line, by what the file and the fault are called
 unfoldable pub named_refusal : List ℕ → ℕ → List ℕ → List ℕ
 named_refusal file line name = codes "refused " ++ file ++ codes " line " ++ decimal line ++ codes " " ++ name ++ codes "\n"

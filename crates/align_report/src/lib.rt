@@ -26,7 +26,7 @@ mod usage;
 pub use law::run_report_law;
 pub use plain_report::{different_text, equivalent_text, side_name};
 pub use refusals::{
-    admission_refusal, large_refusal, line_refusal, tests_refusal, unplain_refusal,
+    admission_refusal, large_refusal, line_refusal, lone_file, tests_refusal, unplain_refusal,
 };
 pub use run::run_text;
 pub use usage::usage_text;

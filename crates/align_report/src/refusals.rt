@@ -1,6 +1,6 @@
 //! The refusals of files and of what they hold.
 ghost use Rattle.std.specs.Prelude.{◌≡◌, string_bytes, IfOk};
-ghost use Rattle.align_report.specs.Refusals.{admission_refusal, kind_name, large_refusal, line_refusal, named_refusal, test_named, tests_named, tests_refusal, unplain_refusal};
+ghost use Rattle.align_report.specs.Refusals.{admission_refusal, kind_name, large_refusal, line_refusal, lone_file, named_refusal, test_named, tests_named, tests_refusal, unplain_refusal};
 
 use admission_text::AdmitRefusal;
 use std::alloc::{AllocError, Global};
@@ -26,6 +26,13 @@ fn kind_name(kind: ReadKind) -> &'static str
         ReadKind::TooManyInsns => "too-many-insns",
         ReadKind::FallsOff => "falls-off",
     }
+}
+
+/// What reports call the file of a command that takes one function.
+pub fn lone_file() -> &'static str
+    ensures { result.now ≡ lone_file }
+{
+    "left"
 }
 
 /// A refusal at a line, by what the file and the fault are called.

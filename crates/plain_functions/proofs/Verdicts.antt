@@ -1,7 +1,8 @@
 -- From sums to verdicts: plain functions whose sums agree are equivalent, and registers that tell the sums apart
 -- make a state from which the functions end differently.
-use Rattle.std.proofs.Common.{◌≡◌, inl, inr, ⊎_elim, ℕ, zero, suc, ◌*◌, ◌≤◌, ◌<◌, List, [], Some, slice_get, length, set, replicate, get_or, refl, sym, ap, ◌∙◌, max, slice_index, arith}
+use Rattle.std.proofs.Common.{◌≡◌, inl, inr, ⊎_elim, ℕ, zero, suc, ◌*◌, ◌≤◌, ◌<◌, List, [], Some, slice_get, length, set, replicate, get_or, refl, sym, ap, subst, ◌∙◌, max, slice_index, arith}
 use Rattle.std.proofs.Math.ListN.{length-set}
+use Rattle.std.proofs.lemmas.Bool.{cases_lt}
 use Rattle.plain_functions.specs.Plain.{IsPlain}
 use Rattle.insn_table.specs.declared.insn.Insn.{Insn}
 use Rattle.runs.specs.Run.{Run}
@@ -138,3 +139,37 @@ differently-same regs left right left_value right_value d same =
 pub equivalent-apart : (bound : ℕ) (left right : List Insn) → AreEquivalentWithin bound left right → ReturnApart left right → ⊥
 equivalent-apart bound left right e a =
     a.differ (e.equivalent.same a.start a.is_start a.left_steps a.right_steps a.left_number a.right_number a.left_returns a.right_returns)
+
+-- from a state a function returns with one %rax at most
+returns-once : (regs : List ℕ) (f : List Insn) (a b : ℕ) → ReturnsFrom regs f a → ReturnsFrom regs f b → a ≡ b
+returns-once regs f a b x y = sym x.2 ∙ ap (λ (run : Run Machine). rax run.0) (sym x.1 ∙ y.1) ∙ y.2
+
+agree-differ : (regs : List ℕ) (left right : List Insn) (a b : ℕ) → ReturnDifferently regs left right a b → AgreeFrom regs left right → ⊥
+agree-differ regs left right a b d agree =
+    d.differ (returns-once regs left a agree.0 d.left_returns agree.1 ∙ returns-once regs right agree.0 b agree.2 d.right_returns)
+
+shown-once : (left right : List Insn) (p q : List ℕ) → IsShownState left right p → IsShownState left right q
+    → (AgreeFrom p left right → ⊥) → (AgreeFrom q left right → ⊥) → p ≡ q
+shown-once left right p q (inl x) (inl y) differ other = x ∙ sym y
+shown-once left right p q (inl x) (inr y) differ other = absurd (differ (subst (λ (regs : List ℕ). AgreeFrom regs left right) (sym x) y.3))
+shown-once left right p q (inr x) (inl y) differ other = absurd (other (subst (λ (regs : List ℕ). AgreeFrom regs left right) (sym y) x.3))
+shown-once left right p q (inr x) (inr y) differ other =
+    ⊎_elim {C = p ≡ q}
+    (λ less. absurd (differ (subst (λ (regs : List ℕ). AgreeFrom regs left right) (sym x.2) (y.4 x.0 less))))
+    (λ no_less. ⊎_elim {C = p ≡ q}
+    (λ more. absurd (other (subst (λ (regs : List ℕ). AgreeFrom regs left right) (sym y.2) (x.4 y.0 more))))
+    (λ no_more. let same : x.0 ≡ y.0 = omega arith in x.2 ∙ ap one_register same ∙ sym y.2)
+    (cases_lt y.0 x.0))
+    (cases_lt x.0 y.0)
+
+-- two functions return differently from one shown state at most
+pub differently-once : (p q : List ℕ) (left right : List Insn) (a b c d : ℕ) → ReturnDifferently p left right a b → ReturnDifferently q left right c d → p ≡ q
+differently-once p q left right a b c d x y =
+    shown-once left right p q x.shown y.shown (agree-differ p left right a b x) (agree-differ q left right c d y)
+
+-- and with one %rax on each side
+pub differently-left : (regs : List ℕ) (left right : List Insn) (a b c d : ℕ) → ReturnDifferently regs left right a b → ReturnDifferently regs left right c d → a ≡ c
+differently-left regs left right a b c d x y = returns-once regs left a c x.left_returns y.left_returns
+
+pub differently-right : (regs : List ℕ) (left right : List Insn) (a b c d : ℕ) → ReturnDifferently regs left right a b → ReturnDifferently regs left right c d → b ≡ d
+differently-right regs left right a b c d x y = returns-once regs right b d x.right_returns y.right_returns
