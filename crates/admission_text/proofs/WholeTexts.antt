@@ -1,5 +1,5 @@
 -- What is read of a whole text is right, and only that is.
-use Rattle.std.proofs.Common.{◌≡◌, ℕ, ◌+◌, ◌≤◌, inl, inr, Bool, true, false, cond, List, [], ◌∷◌, ◌++◌, Option, Some, None, Result, Ok, Err, IfOk, refl, sym, ap, ◌∙◌, subst, append-nil, append_assoc, arith}
+use Rattle.std.proofs.Common.{◌≡◌, ℕ, ◌+◌, ◌≤◌, inl, inr, Bool, true, false, cond, List, [], ◌∷◌, ◌++◌, Option, Some, None, Result, Ok, Err, IfOk, refl, sym, ap, ◌∙◌, subst, append-nil, append_assoc, arith, ◌⊎◌}
 use Rattle.std.proofs.lemmas.Bool.{both_ways}
 use Rattle.outcomes.specs.Answering.{Answers, Gives}
 use Rattle.outcomes.specs.Firsts.{◌>>=◌, HasFault, IsFirst, Precedes}
@@ -289,6 +289,14 @@ admission-refused : (text : List ℕ) (e : AdmitRefusal) → IsAdmissionRefusal 
 admission-refused text e refused = whole text ∙ refused-by text e (entries_of text) (outcome text) refused
 
 -- one meaning
+
+-- a text spells an admission, or is refused
+pub text-some : (text : List ℕ) → ((a : Admission) × IsAdmissionText text a) ⊎ ((e : AdmitRefusal) × IsAdmissionRefusal text e)
+text-some text = by_right (admission_of text) (admission-right text)
+  where
+    by_right : (r : Result Admission AdmitRefusal) → IsRight text r → ((a : Admission) × IsAdmissionText text a) ⊎ ((e : AdmitRefusal) × IsAdmissionRefusal text e)
+    by_right (Ok a) right = inl (a, right.0)
+    by_right (Err e) right = inr (e, right)
 
 -- a text spells at most one admission
 pub text-once : (text : List ℕ) (a b : Admission) → IsAdmissionText text a → IsAdmissionText text b → a ≡ b

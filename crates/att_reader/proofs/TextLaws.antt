@@ -1,5 +1,7 @@
 -- What is read of a whole text is right, and only that is.
-use Rattle.std.proofs.Common.{◌≡◌, ℕ, ◌<◌, List, [], length, Result, Ok, Err, sym, ap, ◌∙◌, subst, arith}
+use Rattle.std.proofs.Common.{◌≡◌, ℕ, Bool, true, false, ◌<◌, List, [], length, Result, Ok, Err, refl, sym, ap, ◌∙◌, subst, arith, ◌⊎◌, inl, inr, Option, Some, None}
+use Rattle.std.specs.Str.{IsUtf8, is_utf8}
+use Rattle.std.proofs.lemmas.Str.{IsUtf8-from_is_utf8}
 use Rattle.std.specs.Str.Lines.{lines}
 use Rattle.outcomes.specs.Answering.{Answers, Gives}
 use Rattle.outcomes.proofs.Answering.{unless-map}
@@ -10,9 +12,9 @@ use Rattle.text_lines.specs.declared.refusal.ReadRefusal.{ReadRefusal}
 use Rattle.text_lines.specs.Lines.{Item}
 use Rattle.text_lines.specs.Texts.{AreItems}
 use Rattle.text_lines.specs.Kinds.{out_of_memory, rank, refusal}
-use Rattle.text_lines.specs.Cutting.{items_of_text}
+use Rattle.text_lines.specs.Cutting.{items_of_text, long_line}
 use Rattle.text_lines.proofs.TextItems.{items-known, items-only, items-ordered}
-use Rattle.text_lines.proofs.TextFaults.{utf8-once, utf8-differs, long-once, short-differs}
+use Rattle.text_lines.proofs.TextFaults.{utf8-once, utf8-differs, long-once, short-differs, long-known, short-known, utf8-some}
 use Rattle.att_bodies.specs.Faults.{Fault}
 use Rattle.att_bodies.specs.Functions as body
 use Rattle.att_bodies.proofs.BodyLaws as laws
@@ -63,6 +65,26 @@ same_function f g names insns pools =
     ap (λ (x : List ℕ). let h : Function = record { name = x; insns = f.insns; pool = f.pool } in h) names
     ∙ ap (λ (x : List Insn). let h : Function = record { name = g.name; insns = x; pool = f.pool } in h) insns
     ∙ ap (λ (x : List ℕ). let h : Function = record { name = g.name; insns = g.insns; pool = x } in h) pools
+
+-- a text spells a function, or is refused
+pub text-some : (text name : List ℕ) → ((f : Function) × IsFunctionText text name f) ⊎ ((e : ReadRefusal) × IsFunctionRefusal text name e)
+text-some text name = by_utf8 (is_utf8 text) refl
+  where
+    by_items : IsLegible text → (r : Result (List Insn) Fault) → IsRightText text name r → ((f : Function) × IsFunctionText text name f) ⊎ ((e : ReadRefusal) × IsFunctionRefusal text name e)
+    by_items legible (Ok insns) right =
+        inl (
+          record { name = name; insns = insns; pool = [] },
+          record { legible = legible; items = items_of_text text; holds = items-known text; function = right; named = refl; no_pool = refl },
+        )
+    by_items legible (Err e) right = inr (refusal e.line e.kind, Faulty legible (items_of_text text) (items-known text) e right refl)
+
+    by_lines : IsUtf8 text → (o : Option ℕ) → long_line 1 (lines text) ≡ o → ((f : Function) × IsFunctionText text name f) ⊎ ((e : ReadRefusal) × IsFunctionRefusal text name e)
+    by_lines utf8 None is = by_items (record { utf8 = utf8; short = short-known text is }) (insns_of_text text name) (text-right text name)
+    by_lines utf8 (Some k) is = inr (refusal k LineLong, Long utf8 k (long-known text k is) refl)
+
+    by_utf8 : (t : Bool) → is_utf8 text ≡ t → ((f : Function) × IsFunctionText text name f) ⊎ ((e : ReadRefusal) × IsFunctionRefusal text name e)
+    by_utf8 true good = by_lines (IsUtf8-from_is_utf8 text good) (long_line 1 (lines text)) refl
+    by_utf8 false bad = let wrong = utf8-some text bad in inr (refusal wrong.0 NotUtf8, NoText wrong.0 wrong.1 refl)
 
 -- a text spells at most one function
 pub text-once : (text name : List ℕ) (f g : Function) → IsFunctionText text name f → IsFunctionText text name g → f ≡ g

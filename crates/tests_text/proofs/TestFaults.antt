@@ -1,6 +1,8 @@
 -- What is read of tests is right, and only that is.
 use Rattle.std.proofs.Common.{◌≡◌, ℕ, ◌+◌, ◌-◌, ◌^◌, ◌<◌, ◌≤◌, ◌⊎◌, inl, inr, min, Bool, true, false, cond, ltb, List, [], ◌∷◌, ◌++◌, length, Option, Some, None, Result, Ok, Err, codes, refl, sym, ap, ◌∙◌, subst, arith}
-use Rattle.std.proofs.lemmas.Bool.{ltb-true, ltb-false, lt-ltb, le-ltb, cases_lt}
+use Rattle.std.specs.Str.{is_utf8}
+use Rattle.std.proofs.lemmas.Str.{IsUtf8-from_is_utf8, is_utf8-from_IsUtf8}
+use Rattle.std.proofs.lemmas.Bool.{ltb-true, ltb-false, lt-ltb, le-ltb, cases_lt, both_ways}
 use Rattle.std.proofs.lemmas.Option.{same_Some}
 use Rattle.outcomes.specs.Answering.{Answers, Gives}
 use Rattle.outcomes.specs.Firsts.{◌>>=◌, HasFault, IsFirst, Precedes}
@@ -327,6 +329,19 @@ pub unread-refused : (text : List ℕ) → ((d : Data) → IsJson text d → ⊥
 unread-refused text none e refused = inr (ap (λ (x : TestRefusal). Err x) (unread-only text none e refused))
 
 -- one meaning
+
+-- a text spells tests, or is refused
+pub text-some : (text : List ℕ) → ((tests : Tests) × IsTestsText text tests) ⊎ ((e : TestRefusal) × IsTestsRefusal text e)
+text-some text = by_json (is_utf8 text) (read text) refl refl
+  where
+    by_file : (d : Data) → IsJson text d → (r : Result Tests TestRefusal) → IsFileRight d r → ((tests : Tests) × IsTestsText text tests) ⊎ ((e : TestRefusal) × IsTestsRefusal text e)
+    by_file d json (Ok tests) right = inl (tests, record { value = d; json = json; items = right.0; has = right.1; few = right.2; each = right.3 })
+    by_file d json (Err e) right = inr (e, refusal-by text d e json right)
+
+    by_json : (valid : Bool) (found : Option Data) → is_utf8 text ≡ valid → read text ≡ found → ((tests : Tests) × IsTestsText text tests) ⊎ ((e : TestRefusal) × IsTestsRefusal text e)
+    by_json false found bad is = inr (NotJson, Unread (λ d json. both_ways (is_utf8 text) bad (is_utf8-from_IsUtf8 text json.utf8)) refl)
+    by_json true None good is = inr (NotJson, Unread (λ d json. none-some d (sym is ∙ json.value)) refl)
+    by_json true (Some d) good is = by_file d (record { utf8 = IsUtf8-from_is_utf8 text good; value = is }) (file_of d) (file-right d)
 
 -- a text spells one list of tests at most
 pub text-once : (text : List ℕ) (a b : Tests) → IsTestsText text a → IsTestsText text b → a ≡ b

@@ -1,10 +1,11 @@
 -- What is wrong with a text as a text is found, and is one thing.
-use Rattle.std.proofs.Common.{◌≡◌, ℕ, ◌+◌, Bool, true, false, cond, eqb, suc, List, [], ◌∷◌, ◌++◌, length, take, Option, Some, None, refl, sym, ap, ◌∙◌, subst, arith}
+use Rattle.std.proofs.Common.{◌≡◌, ℕ, ◌+◌, Bool, true, false, cond, eqb, suc, List, [], ◌∷◌, ◌++◌, length, take, Option, Some, None, refl, sym, ap, ◌∙◌, subst, arith, zero, ◌<◌, ◌≤◌, inl, inr}
+use Rattle.std.proofs.lemmas.List.{take_all}
 use Rattle.std.specs.List.{list_any, count_by}
-use Rattle.std.specs.Str.{IsUtf8}
+use Rattle.std.specs.Str.{IsUtf8, is_utf8}
 use Rattle.std.specs.Str.Lines.{lines}
-use Rattle.std.proofs.lemmas.Bool.{both_ways, or_from, or_parts}
-use Rattle.std.proofs.lemmas.Str.{utf8_valid_len-IsValidUpTo, utf8_valid_len-IsUtf8}
+use Rattle.std.proofs.lemmas.Bool.{both_ways, or_from, or_parts, cases_lt}
+use Rattle.std.proofs.lemmas.Str.{utf8_valid_len-IsValidUpTo, utf8_valid_len-IsUtf8, IsUtf8-nil, IsUtf8-from_is_utf8, is_utf8-from_IsUtf8}
 use Rattle.text_lines.specs.Texts.{IsNotUtf8, is_long, IsLongLine}
 use Rattle.text_lines.specs.Cutting.{long_line}
 
@@ -13,6 +14,37 @@ pub utf8-once : (text : List ℕ) (a b : ℕ) → IsNotUtf8 text a → IsNotUtf8
 utf8-once text a b one two =
     let same : one.valid ≡ two.valid = sym (utf8_valid_len-IsValidUpTo text one.valid one.front) ∙ utf8_valid_len-IsValidUpTo text two.valid two.front in
     one.line ∙ ap (λ n. count_by (λ b. eqb b 10) (take n text) + 1) same ∙ sym two.line
+
+-- of the fronts that are shorter than d bytes one is the longest that is UTF-8, where no other one is
+longest : (text : List ℕ) (d : ℕ) → ((m : ℕ) → d ≤ m → IsUtf8 (take m text) → ⊥)
+    → (n : ℕ) × (n < d) × IsUtf8 (take n text) × ((m : ℕ) → n < m → IsUtf8 (take m text) → ⊥)
+longest text zero none = absurd (none 0 (omega arith) IsUtf8-nil)
+longest text (suc d) none =
+    elim (is_utf8 (take d text)) as (λ (t : Bool). is_utf8 (take d text) ≡ t → (n : ℕ) × (n < suc d) × IsUtf8 (take n text) × ((m : ℕ) → n < m → IsUtf8 (take m text) → ⊥)) [
+      | true ↦ λ e. (d, omega arith, IsUtf8-from_is_utf8 (take d text) e, λ m above good. none m (omega arith) good)
+      | false ↦ λ e.
+          let more = longest text d (shorter e) in
+          let less = more.1 in
+          (more.0, omega arith, more.2, more.3)
+    ] refl
+  where
+    shorter : is_utf8 (take d text) ≡ false → (m : ℕ) → d ≤ m → IsUtf8 (take m text) → ⊥
+    shorter e m at good =
+        elim (cases_lt d m) [
+          | inl above ↦ none m (omega arith) good
+          | inr below ↦
+              let same : m ≡ d = omega arith in
+              both_ways (is_utf8 (take d text)) e (is_utf8-from_IsUtf8 (take d text) (subst (λ (x : ℕ). IsUtf8 (take x text)) same good))
+        ]
+
+-- a text that is no UTF-8 is wrong at a line
+pub utf8-some : (text : List ℕ) → is_utf8 text ≡ false → (k : ℕ) × IsNotUtf8 text k
+utf8-some text bad =
+    let n = longest text (length text) whole in
+    (count_by (λ (b : ℕ). eqb b 10) (take n.0 text) + 1, record { valid = n.0; front = record { short = n.1; front = n.2; longest = n.3 }; line = refl })
+  where
+    whole : (m : ℕ) → length text ≤ m → IsUtf8 (take m text) → ⊥
+    whole m past good = both_ways (is_utf8 text) bad (is_utf8-from_IsUtf8 text (subst IsUtf8 (take_all m text past) good))
 
 -- a text that is UTF-8 is wrong nowhere
 pub utf8-differs : (text : List ℕ) (k : ℕ) → IsUtf8 text → IsNotUtf8 text k → ⊥
