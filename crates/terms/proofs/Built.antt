@@ -1,5 +1,5 @@
 -- Expressions that are built into a sheet have their values: one induction over the expressions.
-use Rattle.std.proofs.Common.{◌≡◌, ℕ, ◌+◌, ◌<◌, ◌≤◌, ◌==◌, List, [], ◌∷◌, ◌++◌, Bool, true, false, length, refl, sym, ◌∙◌, ap, subst, arith, inl, inr, append_assoc, length-append}
+use Rattle.std.proofs.Common.{◌≡◌, ℕ, ◌+◌, ◌<◌, ◌≤◌, ◌==◌, List, [], ◌++◌, length, refl, sym, ◌∙◌, ap, subst, arith, inl, inr, append_assoc, length-append}
 use Rattle.std.proofs.lemmas.Bool.{cases_Bool}
 use Rattle.std.proofs.lemmas.List.{append-nil}
 use Rattle.insn_semantics.specs.Exprs as exprs
@@ -12,6 +12,12 @@ use Rattle.node_values.specs.Sheets.{Extends, IsSheet, value_at, width_at}
 use Rattle.node_values.specs.Values.{Environment, node_value}
 use Rattle.node_values.proofs.SheetLaws.{value_at-append, width_at-append}
 use Rattle.terms.specs.Made.{Made, made}
+use Rattle.std.specs.List.{AllByRecursion}
+use Rattle.insn_ops.specs.declared.op.Op.{Op}
+use Rattle.insn_semantics.specs.Rows.{row_expr}
+use Rattle.insn_semantics.specs.FormedRows.{HasRowWidth, row_widths}
+use Rattle.insn_semantics.proofs.FormedLaws.{rows_formed}
+use Rattle.insn_semantics.proofs.FormedLeaves.{formed_by_leaves}
 use Rattle.terms.proofs.MadeLaws.{IsBuilt, made_built}
 use Rattle.insn_semantics.specs.Formed.{IsFormed, expr_width, operator_width}
 use Rattle.terms.specs.Building.{HasValue, built, operator_node, shift_node, with_node_leaf}
@@ -244,3 +250,11 @@ has_value ns leaves (exprs.Let i x y) sheet inside h =
       width = Y.width ∙ ap (λ l. expr_width l y) (sym widths);
       value = λ e. Y.value e ∙ ap (λ l. exprs.value l y) (sym (values e));
     }
+
+-- the row of a general operation
+pub row_has_value : (ns : List Node) (leaves : ℕ → NodeId) (op : Op) (w k : ℕ) → IsSheet ns → ((i : ℕ) → (leaves i).0 < length ns) → HasRowWidth op w k
+    → AllByRecursion (λ i. width_at ns (leaves i).0 ≡ row_widths op w i) (exprs.leaves_of (row_expr op w k))
+    → HasValue ns leaves (row_expr op w k) (built ns leaves (row_expr op w k))
+row_has_value ns leaves op w k sheet inside widths agree =
+    has_value ns leaves (row_expr op w k) sheet inside
+    (formed_by_leaves (row_widths op w) (λ i. width_at ns (leaves i).0) w (row_expr op w k) agree (rows_formed op w k widths)).formed
