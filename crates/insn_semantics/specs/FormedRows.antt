@@ -5,18 +5,18 @@ use Rattle.insn_ops.specs.declared.op.Op.TheVariants as ops
 use Rattle.insn_semantics.specs.FlagRules.{Rule, Keeps, Unsets, Sets}
 use Rattle.insn_semantics.specs.Formed.{IsFormedAt}
 
--- the width of the source, in a form of w bits
-abbrev pub source_width : Op → ℕ → ℕ
-source_width ops.Lea w = 64
-source_width (ops.Movzx m) w = m
-source_width (ops.Movsx m) w = m
-source_width ops.Cltq w = 32
-source_width _ w = w
+-- the width of the leaf that is the source, in a form of w bits: of `lea` it is an address
+abbrev pub source_leaf_width : Op → ℕ → ℕ
+source_leaf_width ops.Lea w = 64
+source_leaf_width (ops.Movzx m) w = m
+source_leaf_width (ops.Movsx m) w = m
+source_leaf_width ops.Cltq w = 32
+source_leaf_width _ w = w
 
 -- the widths of a row's leaves: of the destination, of the source, and of the condition
 abbrev pub row_widths : Op → ℕ → ℕ → ℕ
 row_widths op w zero = w
-row_widths op w (suc zero) = source_width op w
+row_widths op w (suc zero) = source_leaf_width op w
 row_widths op w (suc (suc i)) = 1
 
 -- the widths of a row, and of a shift with its counts

@@ -18,25 +18,25 @@ pub enum Place {
 }
 
 /// What has a form: the form itself, or a form with its weight.
-pub trait HasForm {
+pub trait HasLinearForm {
     ghost use Rattle.node_forms.specs.declared.form.Form.{Form};
 
-    ghost form_of: { Self → Form };
+    ghost part_form: { Self → Form };
 
     fn form(&self) -> &Form
-        ensures { result.now ≡ form_of self.now };
+        ensures { result.now ≡ part_form self.now };
 }
 
-impl HasForm for Form {
-    ghost form_of = { λ form. form };
+impl HasLinearForm for Form {
+    ghost part_form = { λ form. form };
 
     fn form(&self) -> &Form {
         self
     }
 }
 
-impl HasForm for (u64, Form) {
-    ghost form_of = { λ part. part.1 };
+impl HasLinearForm for (u64, Form) {
+    ghost part_form = { λ part. part.1 };
 
     fn form(&self) -> &Form {
         let (_, form) = self;
@@ -45,14 +45,14 @@ impl HasForm for (u64, Form) {
 }
 
 /// The places of the target and of the parts.
-pub fn places_of<P: HasForm>(
+pub fn places_of<P: HasLinearForm>(
     alloc: Global,
     target: &Form,
     parts: &[P],
 ) -> Result<IndexSet<Place>, Memory>
     ensures constant { IfOk result (λ places. IsAmong places.keys Place.Constant) }
     ensures target { IfOk result (λ places. HasAtoms places.keys target.now) }
-    ensures parts { IfOk result (λ places. AllByRecursion (λ part. HasAtoms places.keys (P.form_of part)) parts.now) }
+    ensures parts { IfOk result (λ places. AllByRecursion (λ part. HasAtoms places.keys (P.part_form part)) parts.now) }
 {
     let mut places = IndexSet::new(alloc);
     places.insert(Place::Constant)?;

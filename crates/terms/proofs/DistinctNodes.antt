@@ -8,7 +8,7 @@ use Rattle.std.proofs.Math.Seq.{get_or-append_seam}
 use Rattle.node_values.specs.declared.node.Node.{Node}
 use Rattle.node_values.specs.declared.node.Node.TheVariants.{Const, Reg, Entry, VecByte, Start, Probe, Add, Sub, Mul, And, Or, Xor, Not, Shl, Shr, Sar, Cat, Cut, Sx, Eq, Ult, Slt, If}
 use Rattle.node_values.specs.Sheets.{node_at}
-use Rattle.terms.specs.Kept.{AreDistinct}
+use Rattle.terms.specs.Kept.{HasEachNodeOnce}
 use Rattle.terms.specs.Made.{is_same_node}
 
 -- a node is the same as itself
@@ -50,7 +50,7 @@ module _ (ns : List Node) (n : Node) (absent : list_any (is_same_node n) ns ≡ 
       true≢false (sym there ∙ absent)
 
   -- one more node, which the sheet did not have
-  pub distinct_push : AreDistinct ns → AreDistinct (ns ++ n ∷ [])
+  pub distinct_push : HasEachNodeOnce ns → HasEachNodeOnce (ns ++ n ∷ [])
   distinct_push distinct i j b c e = elim (cases_lt i (length ns)) [
     | inl first ↦ elim (cases_lt j (length ns)) [
       | inl second ↦ distinct i j first second (sym (older i first) ∙ e ∙ older j second)

@@ -7,7 +7,7 @@ ghost use Rattle.node_values.specs.Environments.{environment_of};
 ghost use Rattle.node_values.specs.Nodes.{IsNode, node_width};
 ghost use Rattle.node_values.specs.Sheets.{Extends, IsSheet, node_at, value_at, width_at};
 ghost use Rattle.node_values.specs.Values.{Environment, node_value};
-ghost use Rattle.terms.specs.Kept.{AreDistinct, IsKeptSheet};
+ghost use Rattle.terms.specs.Kept.{HasEachNodeOnce, IsKeptSheet};
 ghost use Rattle.terms.specs.Sheet.{IsWidthList};
 ghost use Rattle.terms.specs.Made.{GrowsInRoom, IsEquality, made, placed};
 ghost use Rattle.terms.specs.declared.rules.Reduced.TheVariants as reductions;
@@ -111,7 +111,7 @@ impl Sheet {
             → IsEquality node ⊎ GrowsInRoom self.old (made self.old node).nodes }
         ensures err { OnErr result (self.new ≡ self.old) }
         ensures sheet { IsSheet self.new }
-        ensures distinct { AreDistinct self.new }
+        ensures distinct { HasEachNodeOnce self.new }
         ensures room { length self.new ≤ 65536 }
     {
         let id = build_in(self.alloc, &mut self.nodes, &mut self.widths, node)?;
@@ -137,7 +137,7 @@ impl Sheet {
     /// That the list is a sheet, and has each node once. It does nothing.
     pub fn in_order(&self)
         ensures sheet { IsSheet self.now }
-        ensures distinct { AreDistinct self.now }
+        ensures distinct { HasEachNodeOnce self.now }
         ensures room { length self.now ≤ 65536 }
     {
         let _ = &self.nodes;

@@ -15,9 +15,9 @@ loop-part-preserved g c =
     record {
       constant = kept Constant c.loop-part.invariant.constant;
       target = has_atoms_kept before after kept c.args.target.now c.loop-part.invariant.target;
-      parts = all_more (λ part. HasAtoms after (g.P.HasForm.form_of part)) c.args.parts.now c.loop-part.part-index c.part-item.result inside c.part-item.is
+      parts = all_more (λ part. HasAtoms after (g.P.HasLinearForm.part_form part)) c.args.parts.now c.loop-part.part-index c.part-item.result inside c.part-item.is
           (subst (HasAtoms after) c.form.ensures c.in_ok-add_atoms-2.ensures.atoms)
-          (all_map (λ part. HasAtoms before (g.P.HasForm.form_of part)) (λ part. HasAtoms after (g.P.HasForm.form_of part))
-          (λ part h. has_atoms_kept before after kept (g.P.HasForm.form_of part) h)
+          (all_map (λ part. HasAtoms before (g.P.HasLinearForm.part_form part)) (λ part. HasAtoms after (g.P.HasLinearForm.part_form part))
+          (λ part h. has_atoms_kept before after kept (g.P.HasLinearForm.part_form part) h)
           (take c.loop-part.part-index c.args.parts.now) c.loop-part.invariant.parts);
     }

@@ -8,5 +8,5 @@ abbrev pub invariant-loop-part : goal.invariant-loop-part
 invariant-loop-part g l = record {
   constant : IsAmong l.places.keys Constant;
   target : HasAtoms l.places.keys l.target;
-  parts : AllByRecursion (λ part. HasAtoms l.places.keys (g.P.HasForm.form_of part)) (take l.part-index l.parts);
+  parts : AllByRecursion (λ part. HasAtoms l.places.keys (g.P.HasLinearForm.part_form part)) (take l.part-index l.parts);
 }
