@@ -3,7 +3,6 @@
 use Rattle.std.proofs.Common.{◌≡◌, ◌⊎◌, inl, inr, ⊎_elim, ℕ, List, [], ◌∷◌, ◌++◌, length, Option, Some, refl, sym, ◌∙◌, ap, subst, arith}
 use Rattle.std.specs.List.{AllByRecursion}
 use Rattle.align_base.specs.Shelf.{Holding, Holds, HoldsMore}
-use Rattle.insn_ops.specs.declared.side.Side.{Side}
 use Rattle.insn_ops.specs.declared.side.Side.TheVariants.{Left, Right}
 use Rattle.align_base.specs.declared.status.Status.{Status}
 use Rattle.align_base.specs.declared.status.Status.TheVariants as status
@@ -21,12 +20,13 @@ use Rattle.align_cli.specs.Files.{AdmissionText, Content, FunctionText, TestsTex
 use Rattle.align_cli.specs.Statuses.{IsOneOf, interruptions}
 use Rattle.plain_functions.specs.Verdict.{ReturnApart, ReturnTheSame}
 use Rattle.plain_functions.proofs.Verdicts.{differently-same, equivalent-apart}
-use Rattle.align_report.specs.PlainReport.{ReportsDifferent, ReportsEquivalent}
+use Rattle.align_report.specs.PlainReport.{ReportsDifferent, ReportsEquivalent, side_name}
+use Rattle.align_report.specs.Refusals.{lone_file}
 use Rattle.plain_functions.proofs.PlainEnds.{plain-unplain}
 
 -- a text is not both what it has to be and refused
 text-differs : (content : Content) (text report : List ℕ) → IsText content text → RefusesText content text report → ⊥
-text-differs (FunctionText side name) text report is refused = laws.text-differs text name is.0 refused.0 is.1 refused.1
+text-differs (FunctionText called name) text report is refused = laws.text-differs text name is.0 refused.0 is.1 refused.1
 text-differs AdmissionText text report is refused = admission-differs text is.0 refused.0 is.1 refused.1
 text-differs TestsText text report is refused = tests-differ text is.0 refused.0 is.1 refused.1
 
@@ -43,7 +43,7 @@ bad-differs told file bad reads =
     let e = same_text told bad.held file.name bad.text reads.text bad.tells bad.is_held reads.held in
     ⊎_elim {C = ⊥}
     (λ large. absurd (omega (arith, ap length e, reads.small)))
-    (λ refused. text-differs file.content bad.text refused.0 (let P : List ℕ → Type 0 = λ t. IsText file.content t in subst P e reads.is_text) refused.1)
+    (λ refused. text-differs file.content bad.text refused.0 (let P : List ℕ → Type 0 = λ t. IsText file.content t in subst P e reads.so) refused.1)
     bad.bad
 
 -- a good file was not refused
@@ -54,14 +54,14 @@ good-differs told seen file report good (inl large) =
     let e : more.0 ≡ good.text = (let k = more.1 in let l = good.is_held in cc) in absurd (omega (arith, ap length e, more.2, good.small))
 good-differs told seen file report good (inr line) =
     let e = same_text told good.held file.name good.text line.text good.tells good.is_held line.held in
-    text-differs file.content good.text report good.is_text (let P : List ℕ → Type 0 = λ t. RefusesText file.content t report in subst P e line.refused)
+    text-differs file.content good.text report good.is_text (let P : List ℕ → Type 0 = λ t. RefusesText file.content t report in subst P e line.so)
 
 -- a file that is held is one function at most
 same_held : (told : Option Holding) (held : Holding) (arguments : FunctionArguments) (f g : Function) → told ≡ Some held
     → HoldsFunction told arguments f → HoldsFunction told arguments g → f ≡ g
 same_held told held arguments f g tells h k =
     let e = same_text told held arguments.file k.text h.text tells (held_is told held arguments.file k.text tells k.held) h.held in
-    laws.text-once k.text arguments.name f g (let P : List ℕ → Type 0 = λ t. IsFunctionText t arguments.name f in subst P e h.reads) k.reads
+    laws.text-once k.text arguments.name f g (let P : List ℕ → Type 0 = λ t. IsFunctionText t arguments.name f in subst P e h.so) k.so
 
 -- two claims on the files are on the same functions
 same_functions : (C D : List Insn → List Insn → Type 0) (told : Option Holding) (held : Holding) (left right : FunctionArguments) → told ≡ Some held
@@ -82,23 +82,23 @@ equivalent_same : (left right : List Insn) (report : List ℕ) → ReportsEquiva
 equivalent_same left right report e apart = equivalent-apart e.bound left right e.equivalent apart
 
 -- a file that holds a function is good
-function_good : (told : Option Holding) (held : Holding) (side : Side) (arguments : FunctionArguments) (f : Function) → told ≡ Some held
-    → HoldsFunction told arguments f → IsGoodFile told (function_file side arguments)
-function_good told held side arguments f tells h = record {
+function_good : (told : Option Holding) (held : Holding) (called : List ℕ) (arguments : FunctionArguments) (f : Function) → told ≡ Some held
+    → HoldsFunction told arguments f → IsGoodFile told (function_file called arguments)
+function_good told held called arguments f tells h = record {
   held = held;
   text = h.text;
   tells = tells;
   is_held = held_is told held arguments.file h.text tells h.held;
   small = h.small;
-  is_text = (f, h.reads);
+  is_text = (f, h.so);
 }
 
 -- files that hold functions are good
 pub functions_good : (C : List Insn → List Insn → Type 0) (told : Option Holding) (left right : FunctionArguments) → TellsFunctions C told left right
-    → AllByRecursion (IsGoodFile told) (function_file Left left ∷ function_file Right right ∷ [])
+    → AllByRecursion (IsGoodFile told) (function_file (side_name Left) left ∷ function_file (side_name Right) right ∷ [])
 functions_good C told left right owes = (
-  function_good told owes.0 Left left owes.2.f owes.1 owes.2.left_holds,
-  (function_good told owes.0 Right right owes.2.g owes.1 owes.2.right_holds, tt),
+  function_good told owes.0 (side_name Left) left owes.2.f owes.1 owes.2.left_holds,
+  (function_good told owes.0 (side_name Right) right owes.2.g owes.1 owes.2.right_holds, tt),
 )
 
 -- files that hold a function, an admission and tests are good
@@ -107,11 +107,11 @@ run_files_good told run tells =
     let held = tells.0 in
     let k = tells.2.admission_holds in
     let l = tells.2.tests_holds in (
-      function_good told held Left run.function tells.2.f tells.1 tells.2.function_holds,
+      function_good told held lone_file run.function tells.2.f tells.1 tells.2.function_holds,
       (
-        record { held = held; text = k.text; tells = tells.1; is_held = held_is told held run.admission k.text tells.1 k.held; small = k.small; is_text = (tells.2.a, k.reads) },
+        record { held = held; text = k.text; tells = tells.1; is_held = held_is told held run.admission k.text tells.1 k.held; small = k.small; is_text = (tells.2.a, k.so) },
         (
-          record { held = held; text = l.text; tells = tells.1; is_held = held_is told held run.tests l.text tells.1 l.held; small = l.small; is_text = (tells.2.tests, l.reads) },
+          record { held = held; text = l.text; tells = tells.1; is_held = held_is told held run.tests l.text tells.1 l.held; small = l.small; is_text = (tells.2.tests, l.so) },
           tt,
         ),
       ),
@@ -170,7 +170,7 @@ owes-accepts (Show function) _ told owes = absurd owes
 pub accepts-good : (command : Command) (told : Option Holding) → Accepts command told → AllByRecursion (IsGoodFile told) (files_of command)
 accepts-good (DecidePlain left right) told accepts = functions_good (λ f g. IsPlain f × IsPlain g) told left right accepts
 accepts-good (ToRun run) told accepts = run_files_good told run accepts
-accepts-good (Show function) told accepts = (function_good told accepts.0 Left function accepts.2.f accepts.1 accepts.2.holds, tt)
+accepts-good (Show function) told accepts = (function_good told accepts.0 lone_file function accepts.2.f accepts.1 accepts.2.holds, tt)
 
 -- contents that are accepted were not refused
 pub accepts-differs : (command : Command) (told : Option Holding) (report : List ℕ) → Accepts command told → RefusesContents command told report → ⊥

@@ -1,171 +1,111 @@
 -- The files of a command, one after another: what each take says of the command.
-use Rattle.std.proofs.Common.{◌≡◌, ◌⊎◌, inl, inr, ℕ, ◌+◌, ◌<◌, ◌≤◌, List, [], ◌∷◌, ◌++◌, append_assoc, length, Option, Result, Ok, Err, IfErr, IsErrAnd, refl, sym, ◌∙◌, ap, subst, arith}
+use Rattle.std.proofs.Common.{◌≡◌, ◌⊎◌, inl, inr, ℕ, ◌+◌, ◌<◌, ◌≤◌, List, [], ◌∷◌, ◌++◌, append_assoc, length, Option, string_bytes, Result, Ok, Err, IfErr, IfOk, IsErrAnd, refl, sym, ◌∙◌, ap, subst, arith}
 use Rattle.std.specs.List.{AllByRecursion}
 use Rattle.std.proofs.lemmas.List.{length-append}
 use Rattle.outcomes.proofs.Answering.{unless-found}
 use Rattle.align_base.specs.Causes.{Rose, count_after}
-use Rattle.align_base.specs.Shelf.{CallFailed, Holding, Holds, HoldsMore, NoneFailed, ShelfAccount}
-use Rattle.align_base.specs.declared.shelf.Call.TheVariants.{Take}
-use Rattle.insn_ops.specs.declared.side.Side.{Side}
+use Rattle.align_base.specs.Shelf.{Holding, Holds, NoneFailed, ShelfAccount}
 use Rattle.insn_ops.specs.declared.side.Side.TheVariants.{Left, Right}
 use Rattle.align_base.specs.declared.status.Status.{Status}
 use Rattle.align_base.specs.declared.status.Status.TheVariants as status
 use Rattle.insn_table.specs.Closed.{IsClosed}
 use Rattle.insn_table.specs.declared.insn.Function.{Function}
+use Rattle.insn_table.specs.declared.insn.Insn.{Insn}
 use Rattle.text_lines.specs.declared.refusal.ReadKind.{ReadKind}
 use Rattle.text_lines.specs.declared.refusal.ReadKind.TheVariants as kinds
 use Rattle.text_lines.specs.declared.refusal.ReadRefusal.{ReadRefusal}
 use Rattle.text_lines.specs.Kinds.{out_of_memory}
-use Rattle.admission.specs.WellFormed.{IsWellFormed}
 use Rattle.admission.specs.declared.admission.Admission.{Admission}
-use Rattle.admission_text.specs.Entries.{IsAdmissionText}
 use Rattle.admission_text.specs.Refusals as admissions
 use Rattle.admission_text.specs.declared.refusal.AdmitRefusal.{AdmitRefusal}
 use Rattle.admission_text.specs.declared.refusal.AdmitRefusal.TheVariants as admits
 use Rattle.align_report.specs.RunReport.{IsRunReport}
 use Rattle.tests_text.specs.TestFiles as tests
-use Rattle.tests_text.specs.TestFiles.{IsTestsText}
 use Rattle.tests_text.specs.declared.refusal.TestRefusal.{TestRefusal}
 use Rattle.tests_text.specs.declared.refusal.TestRefusal.TheVariants as test
 use Rattle.tests_text.specs.declared.test.Tests.{Tests}
 use Rattle.att_reader.specs.FunctionText.{IsFunctionText, IsFunctionRefusal}
 use Rattle.att_reader.proofs.ClosedTexts.{function-few}
-use Rattle.align_cli.specs.Answers.{FailsAtFile, Refuses, TellsOf}
+use Rattle.align_cli.specs.Answers.{TellsOf}
 use Rattle.command_line.specs.Command.{Command, DecidePlain, FunctionArguments, Run, RunArguments}
-use Rattle.align_cli.specs.Commands.{HoldsAdmission, HoldsFunction, HoldsTests}
-use Rattle.align_cli.specs.Files.{File, IsReached, file_word, ReadsFile, RefusesFile, admission_file, files_of, function_file, tests_file}
-use Rattle.align_cli.specs.Inside.{Compares, Interrupts, InterruptsTake, IsReadAdmission, IsReadFunction, IsReadTests}
-use Rattle.align_report.specs.PlainReport.{side_name}
-use Rattle.align_report.specs.Refusals.{admission_refusal, large_refusal, line_refusal, tests_refusal}
-use Rattle.align_cli.specs.declared.answer.Interruption.{Interruption}
-use Rattle.align_cli.specs.declared.answer.Interruption.TheVariants as interruption
+use Rattle.align_cli.specs.Commands.{AreFunctions, HoldsAdmission, HoldsFunction, HoldsTests, OfPlain, RefusesEither}
+use Rattle.align_cli.specs.Files.{AdmissionText, File, FunctionText, HoldsText, IsReached, ReadsFile, RefusesFile, RefusesText, TestsText, admission_file, file_word, files_of, function_file, limit_of, tests_file, text_limit}
+use Rattle.align_cli.specs.Inside.{Compares, IsReadAdmission, IsReadFunction, IsReadTests, StopsCommand, StopsFile, StopsTake, StopsWith}
+use Rattle.align_report.specs.PlainReport.{ReportsDifferent, ReportsEquivalent, side_name}
+use Rattle.align_report.specs.Refusals.{admission_refusal, line_refusal, lone_file, tests_refusal}
+use Rattle.align_cli.specs.declared.answer.Stop.{Stop}
+use Rattle.align_cli.specs.declared.answer.Stop.TheVariants as stop
 
 -- what holds of an error holds of the result that is it
 pub err-is : {T E : Type 0} (P : E → Type 0) (r : Result T E) (e : E) → IsErrAnd r (λ x. x ≡ e) → P e → IfErr r P
 err-is P (Ok x) e is h = tt
 err-is P (Err x) e is h = subst P (sym is) h
 
+-- what follows for a value, and for an error, follows for a result
+pub ok-map : {T E : Type 0} (P Q : T → Type 0) (r : Result T E) → ((x : T) → P x → Q x) → IfOk r P → IfOk r Q
+ok-map P Q (Ok x) f h = f x h
+ok-map P Q (Err e) f h = tt
+
+pub err-map : {T E : Type 0} (P Q : E → Type 0) (r : Result T E) → ((e : E) → P e → Q e) → IfErr r P → IfErr r Q
+err-map P Q (Ok x) f h = tt
+err-map P Q (Err e) f h = f e h
+
 -- what holds of a status and a report holds of an answer that has them
 pub answer-as : (P : Status → List ℕ → Type 0) (s t : Status) (report bytes : List ℕ) → t ≡ s → bytes ≡ report → P s report → P t bytes
 answer-as P s t report bytes same whole h = subst (λ (x : Status). P x bytes) (sym same) (subst (P s) (sym whole) h)
 
--- a file of too many bytes is refused
-pub large-refused : (told : Option Holding) (seen : ℕ) (file : File) (report : List ℕ)
-    → HoldsMore told file.name 16777216 × (16777216 < seen) × (report ≡ large_refusal (file_word file.content) 16777217) → RefusesFile told seen file report
-large-refused told seen file report h = inl (record { more = h.0; seen_more = h.1; report_is = h.2 })
+-- ---- one file
+
+-- what stops a take stops its file
+pub take-stops : (file : File) (before after : ShelfAccount) (s : Stop) → StopsTake file.name (file_word file.content) (limit_of file.content) before after s
+    → StopsFile file before after s
+take-stops file before after (stop.Refused report) h = (h.0, inl (record { more = h.1; seen_more = h.2; report_is = h.3 }))
+take-stops file before after stop.Shelf h = h
+take-stops file before after stop.Memory h = h
+
+-- what is so of a text that was taken is held
+pub text-held : (IsSo : List ℕ → Type 0) (limit : ℕ) (told : Option Holding) (name text slice : List ℕ) → Holds told name text → length text ≤ limit
+    → slice ≡ text → IsSo slice → HoldsText IsSo limit told name
+text-held IsSo limit told name text slice held small is so = record { text = text; held = held; small = small; so = subst IsSo is so }
+
+-- a text that is refused stops its file
+pub text-stops : (file : File) (before after : ShelfAccount) (text slice report : List ℕ) → NoneFailed before after → Holds before.holding file.name text
+    → length text ≤ limit_of file.content → slice ≡ text → RefusesText file.content slice report
+    → NoneFailed before after × RefusesFile before.holding after.seen file report
+text-stops file before after text slice report stays held small is refused =
+    (stays, inr (text-held (λ t. RefusesText file.content t report) (limit_of file.content) before.holding file.name text slice held small is refused))
+
+-- ---- what each kind of text refuses
 
 -- another kind is another error
 other-kind : (e : ReadRefusal) → (e.kind ≡ kinds.Memory → ⊥) → e ≡ out_of_memory → ⊥
 other-kind e other is = other (ap (λ (x : ReadRefusal). x.kind) is)
 
--- a text that was refused refuses the file
-pub read-refused : (told : Option Holding) (seen : ℕ) (side : Side) (arguments : FunctionArguments) (text slice report : List ℕ) (e : ReadRefusal)
-    → Holds told arguments.file text → length text ≤ 16777216 → slice ≡ text → (e ≡ out_of_memory) ⊎ IsFunctionRefusal slice arguments.name e
-    → (e.kind ≡ kinds.Memory → ⊥) → report ≡ line_refusal (side_name side) e.line e.kind → RefusesFile told seen (function_file side arguments) report
-read-refused told seen side arguments text slice report e held small is refused other told_is =
-    let P : List ℕ → Type 0 = λ t. IsFunctionRefusal t arguments.name e in
-    inr (record {
-      text = text;
-      held = held;
-      small = small;
-      refused = (e, subst P is (unless-found refused (other-kind e other)), told_is);
-    })
+-- a function's text
+pub function-refused : (called name text report : List ℕ) (e : ReadRefusal) → (e ≡ out_of_memory) ⊎ IsFunctionRefusal text name e → (e.kind ≡ kinds.Memory → ⊥)
+    → report ≡ line_refusal called e.line e.kind → RefusesText (FunctionText called name) text report
+function-refused called name text report e refused other told = (e, unless-found refused (other-kind e other), told)
 
--- a text that was read is held as its function
-pub read-function : (told : Option Holding) (arguments : FunctionArguments) (text slice : List ℕ) (f : Function) → Holds told arguments.file text
-    → length text ≤ 16777216 → slice ≡ text → IsFunctionText slice arguments.name f → IsClosed f.insns
-    → HoldsFunction told arguments f × IsClosed f.insns × (length f.insns ≤ 4096)
-read-function told arguments text slice f held small is read closed =
-    let P : List ℕ → Type 0 = λ t. IsFunctionText t arguments.name f in
-    let of_text = subst P is read in
-    (record { text = text; held = held; small = small; reads = of_text }, closed, function-few arguments.name of_text.items f.insns of_text.function)
+-- an admission's text
+pub admission-refused : (text report : List ℕ) (e : AdmitRefusal) → (e ≡ admits.Memory) ⊎ admissions.IsAdmissionRefusal text e → (e ≡ admits.Memory → ⊥)
+    → report ≡ admission_refusal e → RefusesText AdmissionText text report
+admission-refused text report e refused other told = (e, unless-found refused other, told)
 
--- a file that holds a function was read
-reads_function : (told : Option Holding) (side : Side) (arguments : FunctionArguments) (f : Function) → HoldsFunction told arguments f
-    → ReadsFile told (function_file side arguments)
-reads_function told side arguments f h = record { text = h.text; held = h.held; small = h.small; is_text = (f, h.reads) }
+-- the text of tests
+pub tests-refused : (text report : List ℕ) (e : TestRefusal) → (e ≡ test.Memory) ⊎ tests.IsTestsRefusal text e → (e ≡ test.Memory → ⊥)
+    → report ≡ tests_refusal e → RefusesText TestsText text report
+tests-refused text report e refused other told = (e, unless-found refused other, told)
 
-first : (told : Option Holding) (left right : FunctionArguments) → IsReached told (function_file Left left ∷ function_file Right right ∷ []) (function_file Left left) 1
-first told left right = record { before = []; after = function_file Right right ∷ []; whole = refl; read = tt; counted = refl }
-
-second : (told : Option Holding) (left right : FunctionArguments) (f : Function) → HoldsFunction told left f
-    → IsReached told (function_file Left left ∷ function_file Right right ∷ []) (function_file Right right) 2
-second told left right f h =
-    record { before = function_file Left left ∷ []; after = []; whole = refl; read = (reads_function told Left left f h, tt); counted = refl }
+-- a function that was read has few instructions
+pub function-held : (told : Option Holding) (arguments : FunctionArguments) (text slice : List ℕ) (f : Function) → Holds told arguments.file text
+    → length text ≤ text_limit → slice ≡ text → IsFunctionText slice arguments.name f → IsClosed f.insns → IsReadFunction told arguments f
+function-held told arguments text slice f held small is read closed =
+    let h = text-held (λ t. IsFunctionText t arguments.name f) text_limit told arguments.file text slice held small is read in
+    (h, closed, function-few arguments.name h.so.items f.insns h.so.function)
 
 -- two counts are one
 pub counted_twice : (a b c : ℕ) → b ≡ count_after a 1 → c ≡ count_after b 1 → c ≡ count_after a 2
 counted_twice a b c h k = k ∙ ap (λ n. count_after n 1) h ∙ omega arith
-
-pub left-refused : (before after : ShelfAccount) (left right : FunctionArguments) (report : List ℕ) → after.calls ≡ count_after before.calls 1
-    → RefusesFile before.holding after.seen (function_file Left left) report → Refuses (DecidePlain left right) before after report
-left-refused before after left right report taken refused =
-    record { file = function_file Left left; number = 1; reached = first before.holding left right; taken = taken; refused = refused }
-
-pub left-fails : (before after : ShelfAccount) (left right : FunctionArguments) → after.calls ≡ count_after before.calls 1
-    → CallFailed (Take left.file) before after → FailsAtFile (DecidePlain left right) before after
-left-fails before after left right taken failed =
-    record { file = function_file Left left; number = 1; reached = first before.holding left right; taken = taken; failed = failed }
-
--- what keeps the left file from an answer keeps the command from one
-pub left-interrupts : (before after : ShelfAccount) (left right : FunctionArguments) (i : Interruption) → after.calls ≡ count_after before.calls 1
-    → InterruptsTake left.file before after i → Interrupts (DecidePlain left right) before after i
-left-interrupts before after left right interruption.Shelf taken h = left-fails before after left right taken h
-left-interrupts before after left right interruption.Memory taken h = h
-
-module _ (before middle after : ShelfAccount) (left right : FunctionArguments) (f : Function) (held : HoldsFunction before.holding left f) (same : middle.holding ≡ before.holding)
-    (once : middle.calls ≡ count_after before.calls 1) (twice : after.calls ≡ count_after middle.calls 1) where
-  pub right-refused : (report : List ℕ) → RefusesFile middle.holding after.seen (function_file Right right) report → Refuses (DecidePlain left right) before after report
-  right-refused report refused = record {
-    file = function_file Right right;
-    number = 2;
-    reached = second before.holding left right f held;
-    taken = counted_twice before.calls middle.calls after.calls once twice;
-    refused = let P : Option Holding → Type 0 = λ t. RefusesFile t after.seen (function_file Right right) report in subst P same refused;
-  }
-
-  pub right-fails : NoneFailed before middle → CallFailed (Take right.file) middle after → FailsAtFile (DecidePlain left right) before after
-  right-fails stays failed = record {
-    file = function_file Right right;
-    number = 2;
-    reached = second before.holding left right f held;
-    taken = counted_twice before.calls middle.calls after.calls once twice;
-    failed = ((let P : ℕ → Type 0 = λ n. Rose n after.faults in subst P stays.0 failed.0), failed.1);
-  }
-
-  -- what keeps the right file from an answer keeps the command from one
-  pub right-interrupts : (i : Interruption) → NoneFailed before middle → InterruptsTake right.file middle after i → Interrupts (DecidePlain left right) before after i
-  right-interrupts interruption.Shelf stays h = right-fails stays h
-  right-interrupts interruption.Memory stays h = (h.0 ∙ stays.0, h.1 ∙ stays.1)
-
-  -- both files were read
-  pub both-read : (g : Function) → HoldsFunction middle.holding right g → (s : Status) (report : List ℕ) → Compares s f.insns g.insns report
-      → TellsOf (DecidePlain left right) s before after report
-  both-read g holds s report = both s
-    where
-      right_holds : HoldsFunction before.holding right g
-      right_holds = let P : Option Holding → Type 0 = λ t. HoldsFunction t right g in subst P same holds
-
-      read : AllByRecursion (ReadsFile before.holding) (files_of (DecidePlain left right))
-      read = (reads_function before.holding Left left f held, (reads_function before.holding Right right g right_holds, tt))
-
-      both : (s : Status) → Compares s f.insns g.insns report → TellsOf (DecidePlain left right) s before after report
-      both status.Good says = record {
-        read = read;
-        taken = counted_twice before.calls middle.calls after.calls once twice;
-        says = record { f = f; g = g; left_holds = held; right_holds = right_holds; claim = says };
-      }
-      both status.Negative says = record {
-        read = read;
-        taken = counted_twice before.calls middle.calls after.calls once twice;
-        says = record { f = f; g = g; left_holds = held; right_holds = right_holds; claim = says };
-      }
-      both status.Refused says = inr (record {
-        read = read;
-        taken = counted_twice before.calls middle.calls after.calls once twice;
-        refused = record { f = f; g = g; left_holds = held; right_holds = right_holds; claim = says };
-      })
-      both _ says = absurd says
 
 -- ---- a command's files, one after another
 
@@ -190,12 +130,10 @@ module _ (command : Command) (before after : ShelfAccount) (file : File) (rest :
   first-reached : IsReached before.holding (files_of command) file 1
   first-reached = record { before = []; after = rest; whole = whole; read = tt; counted = refl }
 
-  pub first-refused : (report : List ℕ) → RefusesFile before.holding after.seen file report → Refuses command before after report
-  first-refused report refused = record { file = file; number = 1; reached = first-reached; taken = taken; refused = refused }
-
-  pub first-interrupts : (i : Interruption) → InterruptsTake file.name before after i → Interrupts command before after i
-  first-interrupts interruption.Shelf h = record { file = file; number = 1; reached = first-reached; taken = taken; failed = h }
-  first-interrupts interruption.Memory h = h
+  pub first-stops : (s : Stop) → StopsFile file before after s → StopsCommand command before after s
+  first-stops (stop.Refused report) h = (h.0, inl (record { file = file; number = 1; reached = first-reached; taken = taken; refused = h.1 }))
+  first-stops stop.Shelf h = record { file = file; number = 1; reached = first-reached; taken = taken; failed = h }
+  first-stops stop.Memory h = h
 
   pub first-read : after.holding ≡ before.holding → NoneFailed before after → ReadsFile before.holding file → HaveRead command before after (file ∷ []) rest
   first-read same stays reads = record { whole = whole; each = (reads, tt); same = same; taken = taken; stays = stays }
@@ -209,24 +147,25 @@ module _ (command : Command) (before middle after : ShelfAccount) (read : List F
   next-reached : IsReached before.holding (files_of command) file (length read + 1)
   next-reached = record { before = read; after = rest; whole = so_far.whole; read = so_far.each; counted = refl }
 
-  pub next-refused : (report : List ℕ) → RefusesFile middle.holding after.seen file report → Refuses command before after report
-  next-refused report refused = record {
-    file = file;
-    number = length read + 1;
-    reached = next-reached;
-    taken = next-taken;
-    refused = let P : Option Holding → Type 0 = λ t. RefusesFile t after.seen file report in subst P so_far.same refused;
-  }
-
-  pub next-interrupts : (i : Interruption) → InterruptsTake file.name middle after i → Interrupts command before after i
-  next-interrupts interruption.Shelf h = record {
+  pub next-stops : (s : Stop) → StopsFile file middle after s → StopsCommand command before after s
+  next-stops (stop.Refused report) h = (
+    (h.0.0 ∙ so_far.stays.0, h.0.1 ∙ so_far.stays.1),
+    inl (record {
+      file = file;
+      number = length read + 1;
+      reached = next-reached;
+      taken = next-taken;
+      refused = let P : Option Holding → Type 0 = λ t. RefusesFile t after.seen file (string_bytes report) in subst P so_far.same h.1;
+    }),
+  )
+  next-stops stop.Shelf h = record {
     file = file;
     number = length read + 1;
     reached = next-reached;
     taken = next-taken;
     failed = ((let P : ℕ → Type 0 = λ n. Rose n after.faults in subst P so_far.stays.0 h.0), h.1);
   }
-  next-interrupts interruption.Memory h = (h.0 ∙ so_far.stays.0, h.1 ∙ so_far.stays.1)
+  next-stops stop.Memory h = (h.0 ∙ so_far.stays.0, h.1 ∙ so_far.stays.1)
 
   pub next-read : after.holding ≡ middle.holding → NoneFailed middle after → ReadsFile middle.holding file → HaveRead command before after (read ++ file ∷ []) rest
   next-read same stays reads = record {
@@ -237,63 +176,91 @@ module _ (command : Command) (before middle after : ShelfAccount) (read : List F
     stays = (stays.0 ∙ so_far.stays.0, stays.1 ∙ so_far.stays.1);
   }
 
--- ---- admissions and tests
+-- ---- the files of a decision
 
--- an admission that was refused refuses the file
-pub admission-refuses : (told : Option Holding) (seen : ℕ) (name text slice report : List ℕ) (e : AdmitRefusal) → Holds told name text → length text ≤ 16777216
-    → slice ≡ text → (e ≡ admits.Memory) ⊎ admissions.IsAdmissionRefusal slice e → (e ≡ admits.Memory → ⊥) → report ≡ admission_refusal e → RefusesFile told seen (admission_file name) report
-admission-refuses told seen name text slice report e held small is refused other told_is =
-    let P : List ℕ → Type 0 = λ t. admissions.IsAdmissionRefusal t e in
-    inr (record { text = text; held = held; small = small; refused = (e, subst P is (unless-found refused other), told_is) })
+-- a file that holds a function was read
+function-reads : (told : Option Holding) (called : List ℕ) (arguments : FunctionArguments) (f : Function) → HoldsFunction told arguments f
+    → ReadsFile told (function_file called arguments)
+function-reads told called arguments f h = record { text = h.text; held = h.held; small = h.small; so = (f, h.so) }
 
--- an admission that was read is held
-pub admission-reads : (told : Option Holding) (name text slice : List ℕ) (a : Admission) → Holds told name text → length text ≤ 16777216 → slice ≡ text
-    → IsAdmissionText slice a → IsWellFormed a → IsReadAdmission told name a
-admission-reads told name text slice a held small is read formed =
-    let P : List ℕ → Type 0 = λ t. IsAdmissionText t a in (record { text = text; held = held; small = small; reads = subst P is read }, formed)
+-- the left function was read
+pub decide-first : (left right : FunctionArguments) (before first : ShelfAccount) (f : Function) → IsReadFunction before.holding left f
+    → first.holding ≡ before.holding → first.calls ≡ count_after before.calls 1 → NoneFailed before first
+    → HaveRead (DecidePlain left right) before first (function_file (side_name Left) left ∷ []) (function_file (side_name Right) right ∷ [])
+decide-first left right before first f is same taken stays =
+    first-read (DecidePlain left right) before first (function_file (side_name Left) left) (function_file (side_name Right) right ∷ []) refl taken same stays
+    (function-reads before.holding (side_name Left) left f is.0)
 
--- tests that were refused refuse the file
-pub tests-refuse : (told : Option Holding) (seen : ℕ) (name text slice report : List ℕ) (e : TestRefusal) → Holds told name text → length text ≤ 16777216
-    → slice ≡ text → (e ≡ test.Memory) ⊎ tests.IsTestsRefusal slice e → (e ≡ test.Memory → ⊥) → report ≡ tests_refusal e → RefusesFile told seen (tests_file name) report
-tests-refuse told seen name text slice report e held small is refused other told_is =
-    let P : List ℕ → Type 0 = λ t. tests.IsTestsRefusal t e in
-    inr (record { text = text; held = held; small = small; refused = (e, subst P is (unless-found refused other), told_is) })
+module _ (left right : FunctionArguments) (before middle after : ShelfAccount)
+    (so_far : HaveRead (DecidePlain left right) before middle (function_file (side_name Left) left ∷ []) (function_file (side_name Right) right ∷ []))
+    (f g : Function) (left_holds : HoldsFunction before.holding left f) (right_holds : HoldsFunction middle.holding right g)
+    (same : after.holding ≡ middle.holding) (once : after.calls ≡ count_after middle.calls 1) (stays : NoneFailed middle after) where
+  -- and the right one
+  both-read : HaveRead (DecidePlain left right) before after (function_file (side_name Left) left ∷ function_file (side_name Right) right ∷ []) []
+  both-read =
+      next-read (DecidePlain left right) before middle after (function_file (side_name Left) left ∷ []) (function_file (side_name Right) right) [] so_far once same stays
+      (function-reads middle.holding (side_name Right) right g right_holds)
 
--- tests that were read are held
-pub tests-read : (told : Option Holding) (name text slice : List ℕ) (ts : Tests) → Holds told name text → length text ≤ 16777216 → slice ≡ text
-    → IsTestsText slice ts → IsReadTests told name ts
-tests-read told name text slice ts held small is read =
-    let P : List ℕ → Type 0 = λ t. IsTestsText t ts in record { text = text; held = held; small = small; reads = subst P is read }
+  -- this is so of the functions that the files hold
+  pub are-functions : (Claim : List Insn → List Insn → Type 0) → Claim f.insns g.insns → AreFunctions Claim before.holding left right
+  are-functions Claim claim = record {
+    f = f;
+    g = g;
+    left_holds = left_holds;
+    right_holds = let P : Option Holding → Type 0 = λ t. HoldsFunction t right g in subst P so_far.same right_holds;
+    claim = claim;
+  }
+
+  -- the report tells of them
+  pub decide-finishes : (s : Status) (report : List ℕ) → Compares s f.insns g.insns report → TellsOf (DecidePlain left right) s before after report
+  decide-finishes status.Good report says = record {
+    read = both-read.each;
+    taken = both-read.taken;
+    says = are-functions (OfPlain (λ f g. ReportsEquivalent f g report)) says;
+  }
+  decide-finishes status.Negative report says = record {
+    read = both-read.each;
+    taken = both-read.taken;
+    says = are-functions (OfPlain (λ f g. ReportsDifferent f g report)) says;
+  }
+  decide-finishes _ report says = absurd says
+
+  -- or one of them was refused
+  pub decide-stops : (s : Stop) → StopsWith (λ report. RefusesEither report f.insns g.insns) s → StopsCommand (DecidePlain left right) before after s
+  decide-stops (stop.Refused report) h =
+      (both-read.stays, inr (record { read = both-read.each; taken = both-read.taken; refused = are-functions (RefusesEither (string_bytes report)) h }))
+  decide-stops stop.Shelf h = absurd h
+  decide-stops stop.Memory h = both-read.stays
 
 -- ---- the files of a run
 
 -- the function was read
 pub run-first : (run : RunArguments) (before first : ShelfAccount) (f : Function) → IsReadFunction before.holding run.function f
     → first.holding ≡ before.holding → first.calls ≡ count_after before.calls 1 → NoneFailed before first
-    → HaveRead (Run run) before first (function_file Left run.function ∷ []) (admission_file run.admission ∷ tests_file run.tests ∷ [])
+    → HaveRead (Run run) before first (function_file lone_file run.function ∷ []) (admission_file run.admission ∷ tests_file run.tests ∷ [])
 run-first run before first f is same taken stays =
-    first-read (Run run) before first (function_file Left run.function) (admission_file run.admission ∷ tests_file run.tests ∷ []) refl taken same stays
-    (reads_function before.holding Left run.function f is.0)
+    first-read (Run run) before first (function_file lone_file run.function) (admission_file run.admission ∷ tests_file run.tests ∷ []) refl taken same stays
+    (function-reads before.holding lone_file run.function f is.0)
 
 -- and the admission
 pub run-second : (run : RunArguments) (before first second : ShelfAccount)
-    → HaveRead (Run run) before first (function_file Left run.function ∷ []) (admission_file run.admission ∷ tests_file run.tests ∷ [])
+    → HaveRead (Run run) before first (function_file lone_file run.function ∷ []) (admission_file run.admission ∷ tests_file run.tests ∷ [])
     → (a : Admission) → IsReadAdmission first.holding run.admission a → second.holding ≡ first.holding → second.calls ≡ count_after first.calls 1
     → NoneFailed first second
-    → HaveRead (Run run) before second (function_file Left run.function ∷ admission_file run.admission ∷ []) (tests_file run.tests ∷ [])
+    → HaveRead (Run run) before second (function_file lone_file run.function ∷ admission_file run.admission ∷ []) (tests_file run.tests ∷ [])
 run-second run before first second so_far a is same taken stays =
-    next-read (Run run) before first second (function_file Left run.function ∷ []) (admission_file run.admission) (tests_file run.tests ∷ []) so_far taken same stays
-    (record { text = is.0.text; held = is.0.held; small = is.0.small; is_text = (a, is.0.reads) })
+    next-read (Run run) before first second (function_file lone_file run.function ∷ []) (admission_file run.admission) (tests_file run.tests ∷ []) so_far taken same stays
+    (record { text = is.0.text; held = is.0.held; small = is.0.small; so = (a, is.0.so) })
 
 -- and the tests, and the report tells of them
 pub run-finishes : (run : RunArguments) (before first second third : ShelfAccount) (f : Function) → IsReadFunction before.holding run.function f
     → first.holding ≡ before.holding → (a : Admission) → IsReadAdmission first.holding run.admission a
-    → HaveRead (Run run) before second (function_file Left run.function ∷ admission_file run.admission ∷ []) (tests_file run.tests ∷ [])
+    → HaveRead (Run run) before second (function_file lone_file run.function ∷ admission_file run.admission ∷ []) (tests_file run.tests ∷ [])
     → (ts : Tests) → IsReadTests second.holding run.tests ts → third.holding ≡ second.holding → third.calls ≡ count_after second.calls 1
     → NoneFailed second third → (report : List ℕ) → IsRunReport f a ts run.steps report → TellsOf (Run run) status.Good before third report
 run-finishes run before first second third f is_f same a is_a so_far ts is_t same_too taken stays report tells =
-    let all = next-read (Run run) before second third (function_file Left run.function ∷ admission_file run.admission ∷ []) (tests_file run.tests) [] so_far taken same_too stays
-    (record { text = is_t.text; held = is_t.held; small = is_t.small; is_text = (ts, is_t.reads) }) in
+    let all = next-read (Run run) before second third (function_file lone_file run.function ∷ admission_file run.admission ∷ []) (tests_file run.tests) [] so_far taken same_too stays
+    (record { text = is_t.text; held = is_t.held; small = is_t.small; so = (ts, is_t.so) }) in
     record {
       read = all.each;
       taken = all.taken;

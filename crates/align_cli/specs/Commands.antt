@@ -1,6 +1,6 @@
 -- What each command tells, by the status that it ends with.
 use Rattle.std.specs.Prelude.{◌≡◌, ◌⊎◌, ⊤, ℕ, ◌≤◌, List, [], ◌∷◌, length, Option, Some}
-use Rattle.align_base.specs.Shelf.{Holding, Holds}
+use Rattle.align_base.specs.Shelf.{Holding}
 use Rattle.insn_ops.specs.declared.side.Side.{Side}
 use Rattle.insn_ops.specs.declared.side.Side.TheVariants.{Left, Right}
 use Rattle.align_base.specs.declared.status.Status.{Status}
@@ -18,29 +18,21 @@ use Rattle.tests_text.specs.declared.test.Tests.{Tests}
 use Rattle.command_line.specs.Command.{Command, DecidePlain, FunctionArguments, Run, RunArguments, Show}
 use Rattle.plain_functions.specs.Plainness.{IsFirstUnplain}
 use Rattle.align_report.specs.Refusals.{unplain_refusal}
+use Rattle.align_cli.specs.Files.{HoldsText, text_limit}
 use Rattle.plain_functions.specs.Verdict.{ReturnApart, ReturnTheSame}
 use Rattle.align_report.specs.PlainReport.{ReportsDifferent, ReportsEquivalent, side_name}
 
--- the file holds a text within the limit that is this function
-pub record HoldsFunction (told : Option Holding) (arguments : FunctionArguments) (f : Function) : Type 0 where
-  pub text : List ℕ
-  pub held : Holds told arguments.file text
-  pub small : length text ≤ 16777216
-  pub reads : IsFunctionText text arguments.name f
+-- the file holds a text that is this function
+abbrev pub HoldsFunction : Option Holding → FunctionArguments → Function → Type 0
+HoldsFunction told arguments f = HoldsText (λ text. IsFunctionText text arguments.name f) text_limit told arguments.file
 
--- the file holds a text within the limit that is this admission
-pub record HoldsAdmission (told : Option Holding) (name : List ℕ) (a : Admission) : Type 0 where
-  pub text : List ℕ
-  pub held : Holds told name text
-  pub small : length text ≤ 16777216
-  pub reads : IsAdmissionText text a
+-- the file holds a text that is this admission
+abbrev pub HoldsAdmission : Option Holding → List ℕ → Admission → Type 0
+HoldsAdmission told name a = HoldsText (λ text. IsAdmissionText text a) text_limit told name
 
--- the file holds a text within the limit that is these tests
-pub record HoldsTests (told : Option Holding) (name : List ℕ) (tests : Tests) : Type 0 where
-  pub text : List ℕ
-  pub held : Holds told name text
-  pub small : length text ≤ 16777216
-  pub reads : IsTestsText text tests
+-- the file holds a text that is these tests
+abbrev pub HoldsTests : Option Holding → List ℕ → Tests → Type 0
+HoldsTests told name tests = HoldsText (λ text. IsTestsText text tests) text_limit told name
 
 -- the files hold a function, an admission and tests of which this is so
 pub record AreRunFiles (Claim : Function → Admission → Tests → Type 0) (told : Option Holding) (run : RunArguments) : Type 0 where

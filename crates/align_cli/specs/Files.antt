@@ -2,7 +2,6 @@
 use Rattle.std.specs.Prelude.{◌≡◌, ◌⊎◌, ℕ, ◌+◌, ◌<◌, ◌≤◌, List, [], ◌∷◌, ◌++◌, length, codes, Option, Some}
 use Rattle.std.specs.List.{AllByRecursion}
 use Rattle.align_base.specs.Shelf.{Holding, Holds, HoldsMore}
-use Rattle.insn_ops.specs.declared.side.Side.{Side}
 use Rattle.insn_ops.specs.declared.side.Side.TheVariants.{Left, Right}
 use Rattle.insn_table.specs.declared.insn.Function.{Function}
 use Rattle.admission.specs.declared.admission.Admission.{Admission}
@@ -17,22 +16,23 @@ use Rattle.text_lines.specs.declared.refusal.ReadRefusal.{ReadRefusal}
 use Rattle.att_reader.specs.FunctionText.{IsFunctionText, IsFunctionRefusal}
 use Rattle.command_line.specs.Command.{Command, DecidePlain, FunctionArguments, Run, Show}
 use Rattle.align_report.specs.PlainReport.{side_name}
-use Rattle.align_report.specs.Refusals.{admission_refusal, large_refusal, line_refusal, tests_refusal}
+use Rattle.align_report.specs.Refusals.{admission_refusal, large_refusal, line_refusal, lone_file, tests_refusal}
 
--- what the text of a file has to be
+-- The kinds of file. Each has a row in the four definitions below: its limit, what its text has to be, what report refuses
+-- one that isn't, and what reports call it.
 pub data Content : Type 0 where
-  FunctionText : Side → List ℕ → Content  -- on this side, and has the function of this name
+  FunctionText : List ℕ → List ℕ → Content  -- called so in reports, and has the function of this name
   AdmissionText : Content
   TestsText : Content
 
--- the argument that names a file, and what its text has to be
+-- the argument that names a file, and its kind
 pub record File : Type 0 where
   pub name : List ℕ
   pub content : Content
 
--- the file of a function
-abbrev pub function_file : Side → FunctionArguments → File
-function_file side arguments = record { name = arguments.file; content = FunctionText side arguments.name }
+-- the file of a function, by what reports call it
+abbrev pub function_file : List ℕ → FunctionArguments → File
+function_file called arguments = record { name = arguments.file; content = FunctionText called arguments.name }
 
 -- the file of an admission
 abbrev pub admission_file : List ℕ → File
@@ -44,29 +44,35 @@ tests_file name = record { name = name; content = TestsText }
 
 -- the files of a command, in order
 abbrev pub files_of : Command → List File
-files_of (DecidePlain left right) = function_file Left left ∷ function_file Right right ∷ []
-files_of (Run run) = function_file Left run.function ∷ admission_file run.admission ∷ tests_file run.tests ∷ []
-files_of (Show function) = function_file Left function ∷ []
+files_of (DecidePlain left right) = function_file (side_name Left) left ∷ function_file (side_name Right) right ∷ []
+files_of (Run run) = function_file lone_file run.function ∷ admission_file run.admission ∷ tests_file run.tests ∷ []
+files_of (Show function) = function_file lone_file function ∷ []
 
--- the most bytes of a file: 16 MiB
+-- the most bytes of a text that is read: 16 MiB
+abbrev pub text_limit : ℕ
+text_limit = 16777216
+
+-- the most bytes of a file
 abbrev pub limit_of : Content → ℕ
-limit_of content = 16777216
+limit_of (FunctionText called name) = text_limit
+limit_of AdmissionText = text_limit
+limit_of TestsText = text_limit
 
 -- the text is what it has to be
 abbrev pub IsText : Content → List ℕ → Type 0
-IsText (FunctionText side name) text = (f : Function) × IsFunctionText text name f
+IsText (FunctionText called name) text = (f : Function) × IsFunctionText text name f
 IsText AdmissionText text = (a : Admission) × IsAdmissionText text a
 IsText TestsText text = (tests : Tests) × IsTestsText text tests
 
 -- the text isn't what it has to be, and this report refuses it
 abbrev pub RefusesText : Content → List ℕ → List ℕ → Type 0
-RefusesText (FunctionText side name) text report = (e : ReadRefusal) × IsFunctionRefusal text name e × (report ≡ line_refusal (side_name side) e.line e.kind)
+RefusesText (FunctionText called name) text report = (e : ReadRefusal) × IsFunctionRefusal text name e × (report ≡ line_refusal called e.line e.kind)
 RefusesText AdmissionText text report = (e : AdmitRefusal) × admissions.IsAdmissionRefusal text e × (report ≡ admission_refusal e)
 RefusesText TestsText text report = (e : TestRefusal) × tests.IsTestsRefusal text e × (report ≡ tests_refusal e)
 
 -- what reports call a file
 abbrev pub file_word : Content → List ℕ
-file_word (FunctionText side name) = side_name side
+file_word (FunctionText called name) = called
 file_word AdmissionText = codes "admit"
 file_word TestsText = codes "tests"
 
@@ -74,19 +80,20 @@ file_word TestsText = codes "tests"
 abbrev pub large_report : Content → ℕ → List ℕ
 large_report content seen = large_refusal (file_word content) seen
 
--- the file holds a text within the limit that is what it has to be
-pub record ReadsFile (told : Option Holding) (file : File) : Type 0 where
+-- the file of this name holds a text within the limit of which this is so
+pub record HoldsText (IsSo : List ℕ → Type 0) (limit : ℕ) (told : Option Holding) (name : List ℕ) : Type 0 where
   pub text : List ℕ
-  pub held : Holds told file.name text
-  pub small : length text ≤ limit_of file.content
-  pub is_text : IsText file.content text
+  pub held : Holds told name text
+  pub small : length text ≤ limit
+  pub so : IsSo text
 
--- the file holds a text within the limit, and this report refuses it
-pub record RefusesHeld (told : Option Holding) (file : File) (report : List ℕ) : Type 0 where
-  pub text : List ℕ
-  pub held : Holds told file.name text
-  pub small : length text ≤ limit_of file.content
-  pub refused : RefusesText file.content text report
+-- the file holds a text within its limit that is what it has to be
+abbrev pub ReadsFile : Option Holding → File → Type 0
+ReadsFile told file = HoldsText (IsText file.content) (limit_of file.content) told file.name
+
+-- the file holds a text within its limit, and this report refuses it
+abbrev pub RefusesHeld : Option Holding → File → List ℕ → Type 0
+RefusesHeld told file report = HoldsText (λ text. RefusesText file.content text report) (limit_of file.content) told file.name
 
 -- the file has more bytes than the limit, as a take that read so many bytes saw, and this report refuses it
 pub record RefusesLarge (told : Option Holding) (seen : ℕ) (file : File) (report : List ℕ) : Type 0 where

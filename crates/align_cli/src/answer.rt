@@ -1,6 +1,6 @@
 //! What a command answers before anything is given, and what keeps it from an answer.
 ghost use Rattle.std.specs.Prelude.{◌≡◌, string_bytes};
-ghost use Rattle.align_cli.specs.declared.answer.Interruption.TheVariants as interruption;
+ghost use Rattle.align_cli.specs.declared.answer.Stop.TheVariants as stop;
 
 use align_base::Status;
 use outcomes::Memory;
@@ -27,7 +27,34 @@ impl Answer {
     }
 }
 
-/// What keeps a command from an answer.
+/// What keeps a command from being carried out.
+#[derive(Drop)]
+pub enum Stop {
+    /// A file was refused, or what the files hold, by this report.
+    Refused(String),
+    /// The shelf failed.
+    Shelf,
+    /// Out of memory.
+    Memory,
+}
+
+impl From<AllocError> for Stop {
+    ghost from_gives = { λ _ e. e ≡ stop.Memory };
+
+    fn from(_error: AllocError) -> Stop {
+        Stop::Memory
+    }
+}
+
+impl From<Memory> for Stop {
+    ghost from_gives = { λ _ e. e ≡ stop.Memory };
+
+    fn from(_failed: Memory) -> Stop {
+        Stop::Memory
+    }
+}
+
+/// What keeps the arguments from an answer.
 #[derive(Clone, Copy, Debug, PartialEq, Eq, Error)]
 pub enum Interruption {
     /// The shelf failed.
@@ -36,20 +63,4 @@ pub enum Interruption {
     /// Out of memory.
     #[error("out of memory")]
     Memory,
-}
-
-impl From<AllocError> for Interruption {
-    ghost from_gives = { λ _ e. e ≡ interruption.Memory };
-
-    fn from(_error: AllocError) -> Interruption {
-        Interruption::Memory
-    }
-}
-
-impl From<Memory> for Interruption {
-    ghost from_gives = { λ _ e. e ≡ interruption.Memory };
-
-    fn from(_failed: Memory) -> Interruption {
-        Interruption::Memory
-    }
 }

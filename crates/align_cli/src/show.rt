@@ -3,15 +3,15 @@ ghost use Rattle.std.specs.Prelude.{◌≡◌, IfErr, IfOk, OnOk};
 ghost use Rattle.align_base.specs.Shelf.{NoneFailed};
 ghost use Rattle.align_cli.specs.Answers.{TakesSome, TellsOf};
 ghost use Rattle.align_cli.specs.Files.{files_of};
-ghost use Rattle.align_cli.specs.Inside.{Interrupts};
+ghost use Rattle.align_cli.specs.Inside.{StopsCommand};
 ghost use Rattle.align_cli.specs.View.{show_command};
 
-use crate::answer::{Answer, Interruption};
-use crate::files::{Taken, function_in};
+use crate::answer::{Answer, Stop};
+use crate::files::function_in;
 use align_base::{Shelf, Status};
+use align_report::lone_file;
 use command_line::FunctionArguments;
 use flow_graph::graph;
-use insn_ops::Side;
 use insn_text::show_text;
 use std::alloc::Global;
 
@@ -20,18 +20,15 @@ pub fn shown<F: Shelf>(
     alloc: Global,
     arguments: &FunctionArguments,
     shelf: &mut F,
-) -> Result<Answer, Interruption>
+) -> Result<Answer, Stop>
     ensures holding { (F.account shelf.new).holding ≡ (F.account shelf.old).holding }
     ensures takes { TakesSome (files_of (show_command arguments.now)) (F.account shelf.old) (F.account shelf.new) }
     ensures ok { IfOk result (λ answer.
         TellsOf (show_command arguments.now) answer.status (F.account shelf.old) (F.account shelf.new) answer.report.items) }
     ensures none_failed { OnOk result (NoneFailed (F.account shelf.old) (F.account shelf.new)) }
-    ensures err { IfErr result (Interrupts (show_command arguments.now) (F.account shelf.old) (F.account shelf.new)) }
+    ensures err { IfErr result (StopsCommand (show_command arguments.now) (F.account shelf.old) (F.account shelf.new)) }
 {
-    let function = match function_in(alloc, shelf, Side::Left, arguments)? {
-        Taken::Read(function) => function,
-        Taken::Refused(text) => return Ok(Answer::new(Status::Refused, text)),
-    };
+    let function = function_in(alloc, shelf, lone_file(), arguments)?;
     let graph = graph(alloc, &function)?;
     Ok(Answer {
         status: Status::Good,

@@ -7,11 +7,11 @@ ghost use Rattle.align_cli.specs.Answers.{FailsAtFile, Finishes, Given, GivenNot
 ghost use Rattle.command_line.specs.Command.{Command, IsCommand, IsUsageError, OfCommand};
 ghost use Rattle.align_cli.specs.Commands.{Accepts, finals, Owes, Rejects};
 ghost use Rattle.align_cli.specs.Files.{files_of, HasBadFile};
-ghost use Rattle.align_cli.specs.Inside.{InterruptsArguments};
+ghost use Rattle.align_cli.specs.Inside.{InterruptsArguments, StopsArguments};
 ghost use Rattle.align_report.specs.Usage.{usage_text};
 ghost use Rattle.align_cli.specs.Statuses.{interruptions, IsOneOf};
 
-use crate::answer::{Answer, Interruption};
+use crate::answer::{Answer, Interruption, Stop};
 use crate::decide::decided;
 use crate::run::ran;
 use crate::show::shown;
@@ -26,6 +26,27 @@ fn usage(alloc: Global) -> Result<Answer, AllocError>
     ensures { IfOk result (λ answer. (answer.status ≡ Status.Usage) × (answer.report.items ≡ usage_text)) }
 {
     Ok(Answer::new(Status::Usage, usage_text(alloc)?))
+}
+
+/// Carries out what the arguments ask for, up to what is given, or stops where something is refused.
+fn carried_out<F: Shelf>(alloc: Global, arguments: &[Word], shelf: &mut F) -> Result<Answer, Stop>
+    ensures holding { (F.account shelf.new).holding ≡ (F.account shelf.old).holding }
+    ensures untouched { IsUsageError arguments.now → F.account shelf.new ≡ F.account shelf.old }
+    ensures takes { (command : Command) → IsCommand arguments.now command
+        → TakesAtMost (files_of command) (F.account shelf.old) (F.account shelf.new) }
+    ensures ok { IfOk result (λ answer.
+        Tells arguments.now answer.status (F.account shelf.old) (F.account shelf.new) answer.report.items) }
+    ensures none_failed { OnOk result (NoneFailed (F.account shelf.old) (F.account shelf.new)) }
+    ensures err { IfErr result (StopsArguments arguments.now (F.account shelf.old) (F.account shelf.new)) }
+{
+    match command_of(alloc, arguments)? {
+        Some(command_line::Command::DecidePlain(left, right)) => decided(
+            alloc, &left, &right, shelf,
+        ),
+        Some(command_line::Command::Run(run)) => ran(alloc, &run, shelf),
+        Some(command_line::Command::Show(function)) => shown(alloc, &function, shelf),
+        None => Ok(usage(alloc)?),
+    }
 }
 
 /// What the arguments ask for, up to what is given.
@@ -43,13 +64,11 @@ fn answer_of<F: Shelf>(
     ensures none_failed { OnOk result (NoneFailed (F.account shelf.old) (F.account shelf.new)) }
     ensures err { IfErr result (InterruptsArguments arguments.now (F.account shelf.old) (F.account shelf.new)) }
 {
-    match command_of(alloc, arguments)? {
-        Some(command_line::Command::DecidePlain(left, right)) => decided(
-            alloc, &left, &right, shelf,
-        ),
-        Some(command_line::Command::Run(run)) => ran(alloc, &run, shelf),
-        Some(command_line::Command::Show(function)) => shown(alloc, &function, shelf),
-        None => Ok(usage(alloc)?),
+    match carried_out(alloc, arguments, shelf) {
+        Ok(answer) => Ok(answer),
+        Err(Stop::Refused(text)) => Ok(Answer::new(Status::Refused, text)),
+        Err(Stop::Shelf) => Err(Interruption::Shelf),
+        Err(Stop::Memory) => Err(Interruption::Memory),
     }
 }
 
