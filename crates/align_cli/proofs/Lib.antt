@@ -1,3 +1,4 @@
 pub mod Reaching
 pub mod Owing
 pub mod Ending
+pub mod OneReport

@@ -10,12 +10,16 @@ use Rattle.insn_table.specs.declared.insn.Insn.{Insn}
 use Rattle.insn_table.specs.declared.insn.Function.{Function}
 use Rattle.plain_functions.specs.Plain.{IsPlain}
 use Rattle.att_reader.specs.FunctionText.{IsFunctionText}
-use Rattle.admission_text.proofs.WholeTexts.{text-differs as admission-differs}
+use Rattle.admission.specs.declared.admission.Admission.{Admission}
+use Rattle.admission_text.specs.Entries.{IsAdmissionText}
+use Rattle.tests_text.specs.TestFiles.{IsTestsText}
+use Rattle.tests_text.specs.declared.test.Tests.{Tests}
+use Rattle.admission_text.proofs.WholeTexts.{text-differs as admission-differs, text-once as admission-once}
 use Rattle.att_reader.proofs.TextLaws as laws
-use Rattle.tests_text.proofs.TestFaults.{text-differs as tests-differ}
+use Rattle.tests_text.proofs.TestFaults.{text-differs as tests-differ, text-once as tests-once}
 use Rattle.command_line.specs.Command.{Command, DecidePlain, FunctionArguments, RunArguments, Show}
 use Rattle.command_line.specs.Command.{Run as ToRun}
-use Rattle.align_cli.specs.Commands.{Accepts, AreFunctions, HoldsFunction, OfPlain, Owes, RefusesContents, RefusesEither, Rejects, Says, TellsFunctions, TellsRunFiles, finals}
+use Rattle.align_cli.specs.Commands.{Accepts, AreFunctions, HoldsAdmission, HoldsFunction, HoldsTests, OfPlain, Owes, RefusesContents, RefusesEither, Rejects, Says, TellsFunctions, TellsRunFiles, finals}
 use Rattle.align_cli.specs.Files.{AdmissionText, Content, FunctionText, TestsText, File, IsBadFile, IsGoodFile, IsText, ReadsFile, RefusesFile, RefusesText, files_of, function_file, limit_of}
 use Rattle.align_cli.specs.Statuses.{IsOneOf, interruptions}
 use Rattle.plain_functions.specs.Verdict.{ReturnApart, ReturnTheSame}
@@ -57,14 +61,28 @@ good-differs told seen file report good (inr line) =
     text-differs file.content good.text report good.is_text (let P : List ℕ → Type 0 = λ t. RefusesText file.content t report in subst P e line.so)
 
 -- a file that is held is one function at most
-same_held : (told : Option Holding) (held : Holding) (arguments : FunctionArguments) (f g : Function) → told ≡ Some held
+pub same_held : (told : Option Holding) (held : Holding) (arguments : FunctionArguments) (f g : Function) → told ≡ Some held
     → HoldsFunction told arguments f → HoldsFunction told arguments g → f ≡ g
 same_held told held arguments f g tells h k =
     let e = same_text told held arguments.file k.text h.text tells (held_is told held arguments.file k.text tells k.held) h.held in
     laws.text-once k.text arguments.name f g (let P : List ℕ → Type 0 = λ t. IsFunctionText t arguments.name f in subst P e h.so) k.so
 
+-- one admission
+pub same_admission : (told : Option Holding) (held : Holding) (name : List ℕ) (a b : Admission) → told ≡ Some held
+    → HoldsAdmission told name a → HoldsAdmission told name b → a ≡ b
+same_admission told held name a b tells h k =
+    let e = same_text told held name k.text h.text tells (held_is told held name k.text tells k.held) h.held in
+    admission-once k.text a b (let P : List ℕ → Type 0 = λ t. IsAdmissionText t a in subst P e h.so) k.so
+
+-- and one list of tests
+pub same_tests : (told : Option Holding) (held : Holding) (name : List ℕ) (a b : Tests) → told ≡ Some held
+    → HoldsTests told name a → HoldsTests told name b → a ≡ b
+same_tests told held name a b tells h k =
+    let e = same_text told held name k.text h.text tells (held_is told held name k.text tells k.held) h.held in
+    tests-once k.text a b (let P : List ℕ → Type 0 = λ t. IsTestsText t a in subst P e h.so) k.so
+
 -- two claims on the files are on the same functions
-same_functions : (C D : List Insn → List Insn → Type 0) (told : Option Holding) (held : Holding) (left right : FunctionArguments) → told ≡ Some held
+pub same_functions : (C D : List Insn → List Insn → Type 0) (told : Option Holding) (held : Holding) (left right : FunctionArguments) → told ≡ Some held
     → AreFunctions C told left right → (d : AreFunctions D told left right) → C d.f.insns d.g.insns
 same_functions C D told held left right tells a b =
     let l = same_held told held left a.f b.f tells a.left_holds b.left_holds in

@@ -10,8 +10,10 @@
 mod answer;
 mod decide;
 mod files;
+mod laws;
 mod run;
 mod show;
 mod top;
 
+pub use laws::reports_are_one;
 pub use top::align_main;
