@@ -4,7 +4,8 @@
 //! is asked for (`specs/Rules.antt` says which node it is, and `specs/Made.antt` what becomes of the
 //! sheet). `Sheet::eval` and `Sheet::form` give values and linear forms. An expression over words is built
 //! operator by operator (`specs/Building.antt`); by `expressions_have_their_values` its node has the
-//! expression's value in every environment, and so have the rows of instructions.
+//! expression's value in every environment, and by `rows_have_their_values` so has the row of each general
+//! operation.
 //!
 //! ```text
 //! let mut sheet = Sheet::new(alloc);
