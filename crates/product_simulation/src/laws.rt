@@ -10,8 +10,7 @@ ghost use Rattle.product_automaton.specs.Bounds.{composed_bound, joined_bound};
 ghost use Rattle.product_automaton.specs.Ranks.{RanksFall, bound_of};
 ghost use Rattle.product_simulation.specs.Chains.{AreLinked, Link, bounds_of, last_of};
 ghost use Rattle.product_simulation.specs.Leads.{IsWayOn, left_next, right_next};
-ghost use Rattle.product_simulation.specs.Pace.{KeepsPace};
-ghost use Rattle.product_simulation.specs.Functions.{EquivalentFunctions, ProductLeads, function_step};
+ghost use Rattle.product_simulation.specs.Functions.{EquivalentFunctions, PacedFunctions, ProductLeads, function_step};
 ghost use Rattle.product_simulation.specs.Related.{IsStartWhere, SameEndAt, Scratch};
 
 use insn_ops::Output;
@@ -29,9 +28,7 @@ pub fn simulation_law(left: &Function, right: &Function, live: &[Output], produc
         → EquivalentFunctions (λ s. holds 0 s s) live.now scratch (bound_of product.now) left.now right.now }
     ensures paced { (scratch : Scratch) (holds : ℕ → Machine → Machine → Bool)
         → ProductLeads left.now right.now product.now live.now scratch holds
-        → (s : Machine) → IsStartWhere (λ t. holds 0 t t) s
-        → KeepsPace (bound_of product.now) (function_step left.now) (function_step right.now) s
-        × KeepsPace (bound_of product.now) (function_step right.now) (function_step left.now) s }
+        → PacedFunctions (λ s. holds 0 s s) (bound_of product.now) left.now right.now }
 {}
 
 /// The law of chains: two equivalences in turn make one within the joined bound, and a chain of them
