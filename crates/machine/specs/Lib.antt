@@ -14,3 +14,4 @@ pub mod Start
 pub mod Step
 pub mod VectorAccess
 pub mod Vectors
+pub mod Ways

@@ -5,7 +5,8 @@ ghost use Rattle.insn_table.specs.declared.insn.Insn.{Insn};
 ghost use Rattle.insn_table.specs.Closed.{IsClosed};
 ghost use Rattle.machine.specs.Frame.{SameFrame, SameUnwritable, SameVector, writes_vector};
 ghost use Rattle.machine.specs.Machine.{IsState, Machine};
-ghost use Rattle.runs.specs.Path.{Arrived, Back, FallsAtFirst, FallsWithin, Fell, Through, allowed_along, way};
+ghost use Rattle.machine.specs.Ways.{free_way, is_allowed_along, tested_way};
+ghost use Rattle.runs.specs.Path.{Arrived, Back, FallsAtFirst, FallsWithin, Fell, Through};
 ghost use Rattle.runs.specs.Run.{Goes, IsOver, later, run_of};
 ghost use Rattle.runs.specs.declared.ends.RunEnd.{RunEnd};
 ghost use Rattle.runs.specs.declared.ends.RunEnd.TheVariants.{Returned, Running};
@@ -24,14 +25,12 @@ pub fn run_law()
 /// The law of a path along which the free run arrives: where every test along it holds, the run under
 /// the tests goes the same way; otherwise it faults at the first test that fails. It does nothing.
 pub fn path_law()
-    ensures holds { (insns : List Insn) (pool : List ℕ) (path : List ℕ) (next : Option ℕ) (s : Machine)
-        → Arrived (way (λ t. t.place) (free_step insns pool) path next s)
-        → allowed_along (allows_step insns) (free_step insns pool) path s ≡ true
-        → way (λ t. t.place) (step_of insns pool) path next s ≡ way (λ t. t.place) (free_step insns pool) path next s }
-    ensures falls { (insns : List Insn) (pool : List ℕ) (path : List ℕ) (next : Option ℕ) (s : Machine)
-        → Arrived (way (λ t. t.place) (free_step insns pool) path next s)
-        → allowed_along (allows_step insns) (free_step insns pool) path s ≡ false
-        → (way (λ t. t.place) (step_of insns pool) path next s ≡ Fell)
+    ensures holds { (insns : List Insn) (pool path : List ℕ) (next : Option ℕ) (s : Machine)
+        → Arrived (free_way insns pool path next s) → is_allowed_along insns pool path s ≡ true
+        → tested_way insns pool path next s ≡ free_way insns pool path next s }
+    ensures falls { (insns : List Insn) (pool path : List ℕ) (next : Option ℕ) (s : Machine)
+        → Arrived (free_way insns pool path next s) → is_allowed_along insns pool path s ≡ false
+        → (tested_way insns pool path next s ≡ Fell)
         × FallsAtFirst (allows_step insns) (free_step insns pool) path s }
 {}
 
@@ -39,14 +38,14 @@ pub fn path_law()
 /// the path has places, and stands at the next place; one that is back has returned by the last of
 /// them; one that fell has faulted by one of them. It does nothing.
 pub fn way_law()
-    ensures through { (insns : List Insn) (pool : List ℕ) (path : List ℕ) (next : Option ℕ) (s t : Machine)
-        → way (λ u. u.place) (step_of insns pool) path next s ≡ Through t
+    ensures through { (insns : List Insn) (pool path : List ℕ) (next : Option ℕ) (s t : Machine)
+        → tested_way insns pool path next s ≡ Through t
         → (run_of (step_of insns pool) s (length path) ≡ (t, Running)) × (Some t.place ≡ next) }
-    ensures back { (insns : List Insn) (pool : List ℕ) (path : List ℕ) (next : Option ℕ) (s t : Machine)
-        → way (λ u. u.place) (step_of insns pool) path next s ≡ Back t
+    ensures back { (insns : List Insn) (pool path : List ℕ) (next : Option ℕ) (s t : Machine)
+        → tested_way insns pool path next s ≡ Back t
         → run_of (step_of insns pool) s (length path) ≡ (t, Returned (length path)) }
-    ensures fell { (insns : List Insn) (pool : List ℕ) (path : List ℕ) (next : Option ℕ) (s : Machine)
-        → way (λ u. u.place) (step_of insns pool) path next s ≡ Fell
+    ensures fell { (insns : List Insn) (pool path : List ℕ) (next : Option ℕ) (s : Machine)
+        → tested_way insns pool path next s ≡ Fell
         → FallsWithin (step_of insns pool) s (length path) }
 {}
 
