@@ -2,7 +2,7 @@
 use Rattle.std.specs.Prelude.{ℕ, ◌≡◌, ◌≢◌, ◌+◌, ◌%◌, ◌^◌, ◌<◌, ◌≤◌, List, Some, map, slice_get, slice_index}
 use Rattle.std.specs.List.{AllByRecursion}
 use Rattle.memory_spans.specs.declared.region.Region.{Region}
-use Rattle.memory_spans.specs.Memory.{offset_from}
+pub use Rattle.memory_spans.specs.Regions.{HasByte, IsPlaced}
 use Rattle.admission.specs.declared.expr.Expr.{Expr}
 use Rattle.admission.specs.declared.admission.Rel.{Rel}
 use Rattle.admission.specs.declared.admission.Rel.TheVariants.{Eq, Ne, Lt, Le, Slt, Sle}
@@ -46,22 +46,9 @@ abbrev pub IsMet : List ℕ → Need → Type 0
 IsMet regs (Compare a rel b) = Related rel (value_of regs a) (value_of regs b)
 IsMet regs (Modulo a m r) = value_of regs a % m ≡ r
 
--- an address is one of a region's
-abbrev pub HasByte : Region → ℕ → Type 0
-HasByte r at = (r.base ≤ at) × (at < r.base + r.len)
-
 -- two regions share no byte
 abbrev pub AreApart : Region → Region → Type 0
 AreApart r s = (at : ℕ) → HasByte r at → HasByte s at → ⊥
-
--- an address is in the stack range: the declared bytes below the entry's stack pointer, and the return slot of eight bytes
-abbrev pub IsInStackRange : ℕ → ℕ → ℕ → Type 0
-IsInStackRange pointer stack at = offset_from (offset_from stack pointer) at < stack + 8
-
--- a region ends at 2^64 at most, and shares no byte with the stack range
-pub record IsPlaced (pointer stack : ℕ) (r : Region) : Type 0 where
-  pub fits : r.base + r.len ≤ 2 ^ 64
-  pub clear : (at : ℕ) → HasByte r at → IsInStackRange pointer stack at → ⊥
 
 -- the regions of these two numbers share no byte
 abbrev pub ArePairApart : List Region → ℕ × ℕ → Type 0

@@ -10,10 +10,11 @@ use Rattle.insn_table.specs.declared.insn.Operand.{Operand}
 use Rattle.insn_table.specs.declared.insn.Operand.TheVariants.{Reg, Imm, Mem, Vec, Pool, Target, Nothing}
 use Rattle.memory_spans.specs.declared.region.Region.{Region}
 use Rattle.machine.specs.Access.{Access, access_of, accesses, are_aligned, arity, holds_access, is_allowed, is_on_stack, operand_accesses, target_width, writes}
-use Rattle.machine.specs.Kept.{IsKept, IsRegion, Kept, pure_of}
+use Rattle.machine.specs.Kept.{IsKept, Kept, pure_of}
 use Rattle.memory_spans.specs.Spans.{is_spanned}
 use Rattle.memory_spans.specs.Memory.{offset_from}
-use Rattle.machine.specs.Machine.{stack_base}
+use Rattle.machine.specs.Machine.{entry_pointer, stack_base}
+use Rattle.memory_spans.specs.Regions.{IsPlaced}
 use Rattle.machine.specs.Operands.{effective_address, operand}
 use Rattle.machine.specs.Runnable.{IsGeneralRegister}
 use Rattle.machine.specs.Spanned.{AreSpanned, IsSpanned}
@@ -38,7 +39,7 @@ region_test w r true e = refl
 region_test w r false e = grind arith
 
 region_spanned : (k : Kept) (a : Access) (rs : List Region) (at n j : ℕ) → a.at ≡ at → a.bytes ≡ n → at < 2 ^ 64
-    → AllByRecursion (IsRegion (pure_of k)) rs
+    → AllByRecursion (IsPlaced (entry_pointer (pure_of k)) k.stack) rs
     → AllByRecursion (λ r. (x : ℕ) → r.base ≤ x → x < r.base + r.len → is_spanned k.spans x ≡ true) rs
     → list_any (λ r. (not a.write || r.write) && holds_access r a) rs ≡ true → j < n → is_spanned k.spans ((at + j) % 2 ^ 64) ≡ true
 region_spanned k a [] at n j same bytes small each spanned h low = cc

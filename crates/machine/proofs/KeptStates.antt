@@ -1,24 +1,15 @@
 -- What keeps a state kept: the same spans in place, the same regions, the same entry and stack.
-use Rattle.std.proofs.Common.{◌≡◌, ℕ, ◌+◌, ◌<◌, ◌≤◌, ◌^◌, ◌%◌, true, List, [], ◌∷◌, length, sym, ◌∙◌, ap, subst}
+use Rattle.std.proofs.Common.{◌≡◌, ℕ, ◌+◌, ◌<◌, ◌≤◌, ◌^◌, ◌%◌, true, List, [], ◌∷◌, length, slice_index, sym, ◌∙◌, ap, subst}
 use Rattle.std.specs.List.{AllByRecursion}
 use Rattle.memory_spans.specs.declared.region.Region.{Region}
 use Rattle.memory_spans.specs.declared.span.Span.{Span}
 use Rattle.machine.specs.Holding.{IsHeld}
-use Rattle.machine.specs.Kept.{IsKept, IsRegion, Kept, pure_of}
+use Rattle.machine.specs.Kept.{IsKept, Kept, pure_of}
 use Rattle.memory_spans.specs.Spans.{is_spanned, places, contents}
-use Rattle.machine.specs.Machine.{IsInStack, Machine}
+use Rattle.memory_spans.specs.Regions.{IsPlaced}
 use Rattle.machine.specs.Start.{IsCopy}
 use Rattle.memory_spans.proofs.Ordering.{ordered_by_places, spanned_by_places}
 use Rattle.memory_spans.proofs.Contents.{byte_by_contents}
-
-region_kept : (a b : Machine) (r : Region) → b.entry ≡ a.entry → b.stack ≡ a.stack → IsRegion a r → IsRegion b r
-region_kept a b r entry stack h = record {
-  fits = h.fits;
-  apart = λ at low high inside. h.apart at low high (in_stack a b at entry stack inside);
-}
-  where
-    in_stack : (a b : Machine) (at : ℕ) → b.entry ≡ a.entry → b.stack ≡ a.stack → IsInStack b at → IsInStack a at
-    in_stack a b at entry stack inside = rw (entry, stack) at inside
 
 all_regions : (P Q : Region → Type 0) (rs : List Region) → ((r : Region) → P r → Q r) → AllByRecursion P rs → AllByRecursion Q rs
 all_regions P Q [] h a = tt
@@ -29,8 +20,9 @@ pub kept_by_places : (old new : Kept) → new.entry ≡ old.entry → new.stack 
     → places new.spans ≡ places old.spans → IsKept old → IsKept new
 kept_by_places old new entry stack regions spans h = record {
   ordered = ordered_by_places 0 old.spans new.spans spans h.ordered;
-  regions = subst (λ (rs : List Region). AllByRecursion (IsRegion (pure_of new)) rs) (sym regions)
-      (all_regions (IsRegion (pure_of old)) (IsRegion (pure_of new)) old.regions (λ r. region_kept (pure_of old) (pure_of new) r entry stack) h.regions);
+  regions = subst (λ (rs : List Region). AllByRecursion (IsPlaced (slice_index new.entry 4) new.stack) rs) (sym regions)
+      (subst (λ (n : ℕ). AllByRecursion (IsPlaced (slice_index new.entry 4) n) old.regions) (sym stack)
+      (subst (λ (regs : List ℕ). AllByRecursion (IsPlaced (slice_index regs 4) old.stack) old.regions) (sym entry) h.regions));
   spanned = subst (λ (rs : List Region). AllByRecursion (λ r. (at : ℕ) → r.base ≤ at → at < r.base + r.len → is_spanned new.spans at ≡ true) rs) (sym regions)
       (all_regions (λ r. (at : ℕ) → r.base ≤ at → at < r.base + r.len → is_spanned old.spans at ≡ true) (λ r. (at : ℕ) → r.base ≤ at → at < r.base + r.len → is_spanned new.spans at ≡ true)
       old.regions (λ r g at low high. spanned_by_places old.spans new.spans at spans ∙ g at low high) h.spanned);

@@ -5,7 +5,8 @@ use Rattle.std.specs.List.{AllByRecursion}
 use Rattle.insn_ops.specs.declared.op.Flags.{Flags}
 use Rattle.memory_spans.specs.declared.region.Region.{Region}
 use Rattle.memory_spans.specs.declared.span.Span.{Span}
-use Rattle.machine.specs.Machine.{IsInStack, Machine}
+use Rattle.machine.specs.Machine.{IsInStack, Machine, entry_pointer}
+use Rattle.memory_spans.specs.Regions.{IsPlaced}
 use Rattle.memory_spans.specs.Spans.{AreOrdered, is_spanned, memory_of}
 
 -- a state as it is kept: as Machine, with spans of bytes in place of a memory
@@ -32,15 +33,11 @@ pure_of k = record {
   place = k.place;
 }
 
--- a region that does not wrap and has no byte of the stack range
-pub record IsRegion (s : Machine) (r : Region) : Type 0 where
-  pub fits : r.base + r.len ≤ 2 ^ 64
-  pub apart : (at : ℕ) → r.base ≤ at → at < r.base + r.len → IsInStack s at → ⊥
-
--- What a kept state must be: its spans are in order and apart, and have each byte of each region and of the stack range.
+-- What a kept state must be: its spans are in order and apart, and have each byte of each region and of the stack range,
+-- which share none.
 pub record IsKept (k : Kept) : Type 0 where
   pub ordered : AreOrdered 0 k.spans
-  pub regions : AllByRecursion (IsRegion (pure_of k)) k.regions
+  pub regions : AllByRecursion (IsPlaced (entry_pointer (pure_of k)) k.stack) k.regions
   pub spanned : AllByRecursion (λ r. (at : ℕ) → r.base ≤ at → at < r.base + r.len → is_spanned k.spans at ≡ true)
       k.regions
   pub stack_spanned : (at : ℕ) → at < 2 ^ 64 → IsInStack (pure_of k) at → is_spanned k.spans at ≡ true

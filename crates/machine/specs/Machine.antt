@@ -7,6 +7,7 @@ use Rattle.std.specs.Prelude.{◌≡◌, ℕ, ◌+◌, ◌^◌, ◌<◌, List, [
 use Rattle.insn_ops.specs.declared.op.Flags.{Flags}
 use Rattle.memory_spans.specs.declared.region.Region.{Region}
 use Rattle.memory_spans.specs.Memory.{offset_from}
+use Rattle.memory_spans.specs.Regions.{IsInStackRange}
 
 -- the state of the machine
 pub record Machine : Type 0 where
@@ -51,7 +52,7 @@ stack_base s = offset_from s.stack (entry_pointer s)
 
 -- the address lies in the stack range: the declared bytes and the return slot
 abbrev pub IsInStack : Machine → ℕ → Type 0
-IsInStack s at = offset_from (stack_base s) at < s.stack + 8
+IsInStack s at = IsInStackRange (entry_pointer s) s.stack at
 
 -- a start state: at the first instruction, with the entry registers and no flag set
 pub record IsStart (s : Machine) : Type 0 where

@@ -8,7 +8,7 @@ use Rattle.lane_views.specs.declared.Bytes32.{Bytes32}
 use Rattle.memory_spans.specs.declared.region.Region.{Region}
 use Rattle.memory_spans.specs.declared.span.Span.{Span}
 use Rattle.memory_spans.specs.Spans.{AreOrdered, byte_of, is_spanned}
-use Rattle.machine.specs.Kept.{IsKept, IsRegion, pure_of}
+use Rattle.machine.specs.Kept.{IsKept, pure_of}
 use Rattle.machine.specs.Machine.{Machine}
 use Rattle.memory_spans.specs.Memory.{offset_from}
 use Rattle.machine.specs.Start.{kept_start}
@@ -36,13 +36,6 @@ below_test a b h = grind (arith, nat_tests)
 offset_in : (base len at : ℕ) → base ≤ at → at < base + len → at < 2 ^ 64 → offset_from base at < len
 offset_in base len at low high small = omega arith
 
-placed_region : (s : Machine) (r : Region) → IsPlaced (slice_index s.entry 4) s.stack r → IsRegion s r
-placed_region s r p = record { fits = p.fits; apart = λ at low high inside. p.clear at (low, high) inside }
-
-placed_regions : (s : Machine) (rs : List Region) → AllByRecursion (IsPlaced (slice_index s.entry 4) s.stack) rs → AllByRecursion (IsRegion s) rs
-placed_regions s [] all = tt
-placed_regions s (r ∷ rs) all = (placed_region s r all.0, placed_regions s rs all.1)
-
 spanned_regions : (pointer stack : ℕ) (spans : List Span) (rs : List Region) → AllByRecursion (IsPlaced pointer stack) rs
     → ((at : ℕ) → at < 2 ^ 64 → in_regions rs at ≡ true → is_spanned spans at ≡ true)
     → AllByRecursion (λ (r : Region). (at : ℕ) → r.base ≤ at → at < r.base + r.len → is_spanned spans at ≡ true) rs
@@ -61,7 +54,7 @@ pub start_is_kept : (regs : List ℕ) (vecs : List Bytes32) (spans : List Span) 
     → IsKept (kept_start regs vecs spans rs stack)
 start_is_kept regs vecs spans rs stack ranges small placed ordered spanned covered = record {
   ordered = ordered;
-  regions = placed_regions (pure_of (kept_start regs vecs spans rs stack)) rs placed;
+  regions = placed;
   spanned = spanned_regions (slice_index regs 4) stack spans rs placed (λ at low h. spanned at ∙ covered at low
       ∙ or_second (nat_lt (offset_from (offset_from stack (slice_index regs 4)) at) (stack + 8)) (in_regions rs at) h);
   stack_spanned = λ at low inside. spanned at ∙ covered at low
