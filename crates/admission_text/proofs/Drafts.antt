@@ -1,7 +1,7 @@
 -- A draft follows its lines: what it tells of them, which lines go over, and that its admission is well formed.
-use Rattle.std.proofs.Common.{◌≡◌, ℕ, ◌+◌, ◌<◌, inl, inr, Bool, true, false, ◌||◌, cond, eqb, leb, List, [], ◌∷◌, ◌++◌, length, map, Option, Some, None, codes, slice_get, refl, sym, ap, ◌∙◌, subst, append-nil, length-append, arith}
+use Rattle.std.proofs.Common.{◌≡◌, ℕ, ◌+◌, ◌<◌, ◌≤◌, ◌⊎◌, inl, inr, Bool, true, false, ◌||◌, cond, leb, List, [], ◌∷◌, ◌++◌, length, map, Option, Some, None, codes, refl, sym, ap, ◌∙◌, subst, append-nil, length-append, arith}
 use Rattle.std.specs.List.{AllByRecursion, AllZip, cons_option, filter}
-use Rattle.std.proofs.lemmas.Bool.{cases_lt, eqb-true, leb-false, le-leb, lt-leb}
+use Rattle.std.proofs.lemmas.Bool.{cases_lt, leb-false, le-leb, lt-leb}
 use Rattle.std.proofs.lemmas.List.{length-map, map-append}
 use Rattle.std.proofs.lemmas.List.Elements.{filter-append, filter_map-append}
 use Rattle.std.proofs.lemmas.List.Folds.{list_any-append}
@@ -18,12 +18,14 @@ use Rattle.admission.specs.WellFormed.{AreBounds, IsNeed, IsWellFormed}
 use Rattle.admission_text.specs.declared.entry.Draft.{Draft}
 use Rattle.admission_text.specs.declared.entry.Entry.{Entry}
 use Rattle.admission_text.specs.declared.entry.Entry.TheVariants as entries
-use Rattle.admission_text.specs.Names.{IsOutputText, names_64, names_32, names_16, names_8, numerals}
+use Rattle.register_names.specs.Names.{IsNamedWidth}
+use Rattle.register_names.proofs.NameTexts.{names_there}
+use Rattle.admission_text.specs.Names.{IsOutputText}
 use Rattle.admission_text.specs.Grammar.{IsEntry, IsRequireEntry, Line, has_line, is_of, name_in, region_names, region_number}
 use Rattle.admission_text.specs.Entries.{count_of, goes_over, no_admission, with_entry}
 use Rattle.admission_text.specs.ReadingLines.{drafted_with, is_live, is_over, is_stack, no_draft}
 use Rattle.admission_text.proofs.EntryTexts.{is_headed, Tells}
-use Rattle.admission_text.proofs.Registers.{place-found}
+use Rattle.text_parts.proofs.PlaceLaws.{place-found}
 use Rattle.admission_text.proofs.Terms.{expr-sound}
 
 -- what an entry says of the words that spell it
@@ -231,18 +233,24 @@ inside-more regions r aparts all =
     all-weaker (λ (p : ℕ × ℕ). (p.0 < length regions) × (p.1 < length regions)) (λ (p : ℕ × ℕ). (p.0 < length (regions ++ r ∷ [])) × (p.1 < length (regions ++ r ∷ [])))
     (λ p inside. (omega (arith, inside.0), omega (arith, inside.1))) aparts all
 
-width-by : (n w : ℕ) (name : List ℕ) (a b c d : Bool) → eqb w 64 ≡ a → eqb w 32 ≡ b → eqb w 16 ≡ c → eqb w 8 ≡ d
-    → slice_get (cond a names_64 (cond b names_32 (cond c names_16 (cond d names_8 [])))) n ≡ Some name → (n < 16) × IsWidth w
-width-by n w name true b c d is_a is_b is_c is_d there = (slice_get_within names_64 n name there, inr (inr (inr (eqb-true w 64 is_a))))
-width-by n w name false true c d is_a is_b is_c is_d there = (slice_get_within names_32 n name there, inr (inr (inl (eqb-true w 32 is_b))))
-width-by n w name false false true d is_a is_b is_c is_d there = (slice_get_within names_16 n name there, inr (inl (eqb-true w 16 is_c)))
-width-by n w name false false false true is_a is_b is_c is_d there = (slice_get_within names_8 n name there, inl (eqb-true w 8 is_d))
-width-by n w name false false false false is_a is_b is_c is_d there = absurd (cc)
+width-by : (w : ℕ) → IsNamedWidth w → w ≤ 64 → IsWidth w
+width-by w (inl e) low = inr (inr (inr e))
+width-by w (inr (inl e)) low = inr (inr (inl e))
+width-by w (inr (inr (inl e))) low = inr (inl e)
+width-by w (inr (inr (inr (inl e)))) low = inl e
+width-by w (inr (inr (inr (inr (inl e))))) low = absurd (omega arith)
+width-by w (inr (inr (inr (inr (inr e))))) low = absurd (omega arith)
+
+vector-by : (w : ℕ) → IsNamedWidth w → 64 < w → (w ≡ 128) ⊎ (w ≡ 256)
+vector-by w (inl e) high = absurd (omega arith)
+vector-by w (inr (inl e)) high = absurd (omega arith)
+vector-by w (inr (inr (inl e))) high = absurd (omega arith)
+vector-by w (inr (inr (inr (inl e)))) high = absurd (omega arith)
+vector-by w (inr (inr (inr (inr e)))) high = e
 
 output-sound : (text : List ℕ) (o : Output) → IsOutputText text o → IsOutput o
-output-sound text (Reg n w) is = width-by n w is.0 (eqb w 64) (eqb w 32) (eqb w 16) (eqb w 8) refl refl refl refl is.1
-output-sound text (Vec n w) is =
-    (slice_get_within numerals n is.1 is.3, elim is.2 [ inl p ↦ inl p.0 | inr p ↦ inr p.0 ])
+output-sound text (Reg n w) is = let p = names_there.alone is.0.name w n is.0.known in (p.1, width-by w p.0 is.1)
+output-sound text (Vec n w) is = let p = names_there.alone is.0.name w n is.0.known in (p.1, vector-by w p.0 is.1)
 
 outputs-sound : (outs : List (List ℕ)) (live : List Output) → AllZip IsOutputText outs live → AllByRecursion IsOutput live
 outputs-sound [] [] h = tt

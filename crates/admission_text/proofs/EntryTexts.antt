@@ -19,15 +19,16 @@ use Rattle.admission_text.specs.declared.entry.Entry.TheVariants as entries
 use Rattle.admission_text.specs.declared.entry.Keyword.{Keyword}
 use Rattle.admission_text.specs.declared.entry.Keyword.TheVariants as words
 use Rattle.admission_text.specs.Names.{IsNumberText, IsOutputText}
-use Rattle.admission_text.specs.Grammar.{IsApartEntry, IsEntry, IsExprText, IsRegionEntry, IsRegionName, IsRequireEntry, IsScratchEntry, IsStackEntry, Line, has_line, is_lower, is_name_byte, parts, region_names, region_number, relation}
+use Rattle.text_parts.specs.Cuts.{parts, ◌>>=◌, first_by, first_part, five_words, four_words, one_word, parts_left, three_words, two_words}
+use Rattle.admission_text.specs.Grammar.{IsApartEntry, IsEntry, IsExprText, IsRegionEntry, IsRegionName, IsRequireEntry, IsScratchEntry, IsStackEntry, Line, has_line, is_lower, is_name_byte, region_names, region_number, relation}
 use Rattle.admission_text.specs.Entries.{count_of}
-use Rattle.admission_text.specs.Reading.{◌>>=◌, apart_entry, compare_need, entry_of, entry_with, expr_of, first_by, first_part, five_words, four_words, header_entry, is_admit, is_modulus, is_region_name, keyword_of, live_entry, modulo_need, names_of, need_by, number_of, one_word, outputs_of, parts_left, region_entry, relation_of, require_entry, right_of, scratch_entry, stack_entry, three_words, two_words}
-use Rattle.admission_text.proofs.Decimals.{chosen_else, chosen_then}
+use Rattle.admission_text.specs.Reading.{apart_entry, compare_need, entry_of, entry_with, expr_of, header_entry, is_admit, is_modulus, is_region_name, keyword_of, live_entry, modulo_need, names_of, need_by, word_number, outputs_of, region_entry, relation_of, require_entry, right_of, scratch_entry, stack_entry}
+use Rattle.text_parts.proofs.Options.{chosen_else, chosen_then}
 use Rattle.admission_text.proofs.Numbers.{number-known, number-only}
 use Rattle.admission_text.proofs.Registers.{outputs-known, outputs-only}
 use Rattle.admission_text.proofs.Terms.{expr-known, expr-only}
-use Rattle.admission_text.proofs.TextParts as cuts
-use Rattle.admission_text.proofs.TextParts.{bind_some}
+use Rattle.text_parts.proofs.WordTexts as cuts
+use Rattle.text_parts.proofs.Options.{bind_some}
 
 -- there is a line
 abbrev pub is_headed : List Line → Bool
@@ -302,12 +303,12 @@ modulo-known : (left word modulus equals rest : List ℕ) (n : Need) → modulo_
 unfolding modulo_need
 modulo-known left word modulus equals rest n h =
     let both : Bool = bytes_eq word (codes "mod") && bytes_eq equals (codes "=") in
-    let m = bind_some (cond both (number_of modulus) None)
-    (λ m. number_of rest >>= λ r. ((cond (is_modulus m && ltb r m) (expr_of left) None) >>= λ a. Some (Modulo a m r))) n h in
-    let r = bind_some (number_of rest) (λ r. (cond (is_modulus m.0 && ltb r m.0) (expr_of left) None) >>= λ a. Some (Modulo a m.0 r)) n m.2 in
+    let m = bind_some (cond both (word_number modulus) None)
+    (λ m. word_number rest >>= λ r. ((cond (is_modulus m && ltb r m) (expr_of left) None) >>= λ a. Some (Modulo a m r))) n h in
+    let r = bind_some (word_number rest) (λ r. (cond (is_modulus m.0 && ltb r m.0) (expr_of left) None) >>= λ a. Some (Modulo a m.0 r)) n m.2 in
     let a = bind_some (cond (is_modulus m.0 && ltb r.0 m.0) (expr_of left) None) (λ a. Some (Modulo a m.0 r.0)) n r.2 in
     let means : Modulo a.0 m.0 r.0 ≡ n = same_Some (Modulo a.0 m.0 r.0) n a.2 in
-    let spelled = chosen_then both (number_of modulus) m.0 m.1 in
+    let spelled = chosen_then both (word_number modulus) m.0 m.1 in
     let parts_are = and_parts (bytes_eq word (codes "mod")) (bytes_eq equals (codes "=")) spelled.0 in
     let within = chosen_then (is_modulus m.0 && ltb r.0 m.0) (expr_of left) a.0 a.1 in
     let bounds = and_parts (is_modulus m.0) (ltb r.0 m.0) within.0 in
@@ -376,8 +377,8 @@ scratch-known rest e h =
 stack-known : (d : Draft) (rest : List ℕ) (e : Entry) → stack_entry d rest ≡ Some e → (n : ℕ) × (entries.Stack n ≡ e) × IsStackEntry (codes "stack" ∷ parts 32 rest) n × (d.stacked ≡ false)
 unfolding stack_entry
 stack-known d rest e h =
-    let w = bind_some (cond d.stacked None (one_word rest)) (λ word. number_of word >>= λ n. cond (eqb (n % 8) 0 && leb n 4096) (Some (entries.Stack n)) None) e h in
-    let n = bind_some (number_of w.0) (λ n. cond (eqb (n % 8) 0 && leb n 4096) (Some (entries.Stack n)) None) e w.2 in
+    let w = bind_some (cond d.stacked None (one_word rest)) (λ word. word_number word >>= λ n. cond (eqb (n % 8) 0 && leb n 4096) (Some (entries.Stack n)) None) e h in
+    let n = bind_some (word_number w.0) (λ n. cond (eqb (n % 8) 0 && leb n 4096) (Some (entries.Stack n)) None) e w.2 in
     let first = chosen_else d.stacked (one_word rest) w.0 w.1 in
     let within = chosen_then (eqb (n.0 % 8) 0 && leb n.0 4096) (Some (entries.Stack n.0)) e n.2 in
     let both = and_parts (eqb (n.0 % 8) 0) (leb n.0 4096) within.0 in (

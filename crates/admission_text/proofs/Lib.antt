@@ -1,6 +1,4 @@
 pub mod Pieces
-pub mod TextParts
-pub mod Decimals
 pub mod Numbers
 pub mod Registers
 pub mod Terms

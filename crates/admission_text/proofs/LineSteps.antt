@@ -6,10 +6,9 @@ use Rattle.outcomes.proofs.Answering.{unless-map}
 use Rattle.admission_text.specs.declared.entry.Draft.{Draft}
 use Rattle.admission_text.specs.declared.refusal.AdmitRefusal.{AdmitRefusal}
 use Rattle.admission_text.specs.declared.refusal.AdmitRefusal.TheVariants.{Memory}
-use Rattle.admission_text.specs.Grammar.{parts}
-use Rattle.admission_text.specs.Reading.{first_part, parts_left}
+use Rattle.text_parts.specs.Cuts.{parts, first_part, parts_left}
 use Rattle.admission_text.specs.ReadingLines.{behind_line, behind_lines, next_line, no_draft}
-use Rattle.admission_text.proofs.TextParts.{parts-first}
+use Rattle.text_parts.proofs.WordTexts.{parts-first}
 
 module _ (left : Option (List ℕ)) (number : ℕ) (d : Draft) (text : List ℕ)
     (so_far : behind_lines 0 no_draft (parts 10 text) ≡ behind_lines number d (parts_left 10 left)) where

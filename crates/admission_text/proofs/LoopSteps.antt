@@ -2,9 +2,10 @@
 use Rattle.std.proofs.Common.{◌≡◌, ℕ, suc, ◌+◌, ◌-◌, ◌<◌, ◌≤◌, Bool, false, List, [], ◌∷◌, ◌++◌, length, Option, Some, None, refl, sym, ap, ◌∙◌, subst, append-nil, append_assoc, length-append, arith}
 use Rattle.insn_ops.specs.declared.output.Output.{Output}
 use Rattle.admission.specs.declared.expr.Term.{Term}
-use Rattle.admission_text.specs.Reading.{◌>>=◌, cut_sign, expr_of, first_part, output_of, outputs_of, parts_left, term_of, terms_by, terms_of}
-use Rattle.admission_text.proofs.Pieces.{before_those, left_size}
-use Rattle.admission_text.proofs.TextParts.{left-shorter, parts-first}
+use Rattle.text_parts.specs.Cuts.{◌>>=◌, first_part, parts_left}
+use Rattle.admission_text.specs.Reading.{cut_sign, expr_of, output_of, outputs_of, term_of, terms_by, terms_of}
+use Rattle.admission_text.proofs.Pieces.{before_those}
+use Rattle.text_parts.proofs.WordTexts.{left-shorter, left_size, parts-first}
 
 before_those-cons : {X : Type 0} (xs : List X) (x : X) (left : Option (List X)) → before_those xs (left >>= λ more. Some (x ∷ more)) ≡ before_those (xs ++ x ∷ []) left
 before_those-cons xs x None = refl

@@ -1,11 +1,6 @@
 -- Parts of texts, put back before what was cut.
-use Rattle.std.proofs.Common.{ℕ, ◌+◌, Bool, List, ◌++◌, Option, Some, None, length}
-use Rattle.admission_text.specs.Reading.{◌>>=◌}
-
--- a list before the first of two parts
-abbrev pub all_onto : List ℕ → Option (List ℕ × List ℕ) → Option (List ℕ × List ℕ)
-all_onto front None = None
-all_onto front (Some found) = Some (front ++ found.0, found.1)
+use Rattle.std.proofs.Common.{ℕ, Bool, List, ◌++◌, Option, Some, None}
+use Rattle.text_parts.specs.Cuts.{◌>>=◌}
 
 -- a list before the first of two parts with a sign between
 abbrev pub all_before : List ℕ → Option (List ℕ × Bool × List ℕ) → Option (List ℕ × Bool × List ℕ)
@@ -15,8 +10,3 @@ all_before front (Some found) = Some (front ++ found.0, found.1, found.2)
 -- items before those that are read
 abbrev pub before_those : {X : Type 0} → List X → Option (List X) → Option (List X)
 before_those xs left = left >>= λ more. Some (xs ++ more)
-
--- how much is left of a text: more where it is one more part
-abbrev pub left_size : Option (List ℕ) → ℕ
-left_size None = 0
-left_size (Some text) = length text + 1

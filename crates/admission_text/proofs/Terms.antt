@@ -8,17 +8,19 @@ use Rattle.std.proofs.lemmas.Option.{same_Some, slice_get_within}
 use Rattle.admission.specs.declared.expr.Term.{Term}
 use Rattle.admission.specs.declared.expr.Expr.{Expr}
 use Rattle.admission.specs.WellFormed.{IsExpr, IsFirstAdded, IsTerm}
-use Rattle.admission_text.specs.Names.{IsGeneral, names_64}
+use Rattle.register_names.specs.Names.{register_names}
+use Rattle.admission_text.specs.Names.{IsGeneral}
 use Rattle.admission_text.specs.Grammar.{AreTermTexts, IsExprText, IsTermText, sign_of}
-use Rattle.admission_text.specs.Reading.{◌>>=◌, after_byte, cut_at, cut_sign, expr_of, number_of, onto_term, register_of, term_by, term_of, terms_by, terms_of}
+use Rattle.text_parts.specs.Cuts.{◌>>=◌, after_byte, cut_at}
+use Rattle.admission_text.specs.Reading.{cut_sign, expr_of, word_number, onto_term, register_of, term_by, term_of, terms_by, terms_of}
 use Rattle.admission_text.proofs.Numbers.{number-high, number-known, number-only}
-use Rattle.admission_text.proofs.Registers.{list_all-at, register-known, register-only}
-use Rattle.admission_text.proofs.TextParts.{bind_some, cut-outcome, IsCut}
+use Rattle.admission_text.proofs.Registers.{register-known, register-only}
+use Rattle.text_parts.proofs.CutTexts.{cut-none, cut-only, lacks}
+use Rattle.text_parts.proofs.PlaceLaws.{list_all-at}
+use Rattle.text_parts.proofs.WordTexts.{cut-outcome, IsCut}
+use Rattle.text_parts.proofs.Options.{bind_some}
 
 -- bytes that a text lacks
-
-abbrev lacks : ℕ → List ℕ → Bool
-lacks byte text = list_all (λ b. not (eqb b byte)) text
 
 abbrev is_sign : ℕ → Bool
 is_sign b = eqb b 43 || eqb b 45
@@ -40,22 +42,6 @@ high-signs (b ∷ bs) high =
     let above : 48 ≤ b = leb-true 48 b p.0 in
     and_from (not (is_sign b)) (lacks_signs bs)
     (not_from_false (is_sign b) (or_from (eqb b 43) (eqb b 45) (ne_eqb b 43 (λ e. omega arith)) (ne_eqb b 45 (λ e. omega arith)))) (high-signs bs p.1)
-
-cut_at-none : (byte : ℕ) (text : List ℕ) → lacks byte text ≡ true → cut_at byte text ≡ None
-unfolding cut_at
-cut_at-none byte [] h = refl
-cut_at-none byte (b ∷ bs) h =
-    let p = and_parts (not (eqb b byte)) (lacks byte bs) h in
-    let other : eqb b byte ≡ false = not-true (eqb b byte) p.0 in
-    rw (other, cut_at-none byte bs p.1) refl
-
-cut_at-some : (byte : ℕ) (front rest : List ℕ) → lacks byte front ≡ true → eqb byte byte ≡ true → cut_at byte (front ++ byte ∷ rest) ≡ Some (front, rest)
-unfolding cut_at
-cut_at-some byte [] rest h same = rw same refl
-cut_at-some byte (b ∷ bs) rest h same =
-    let p = and_parts (not (eqb b byte)) (lacks byte bs) h in
-    let other : eqb b byte ≡ false = not-true (eqb b byte) p.0 in
-    rw (other, cut_at-some byte bs rest p.1 same) refl
 
 -- terms
 
@@ -81,16 +67,16 @@ IsSignedTerm minus text t = IsTermText text t × (t.minus ≡ minus)
 
 term-by : (minus : Bool) (text : List ℕ) (r : Option (List ℕ × List ℕ)) (t : Term) → IsCut 42 text r → term_by minus r text ≡ Some t → IsSignedTerm minus text t
 term-by minus text None t cut h =
-    elim (either-known (option_map (register_term minus) (register_of text)) (option_map (number_term minus) (number_of text)) t h) [
+    elim (either-known (option_map (register_term minus) (register_of text)) (option_map (number_term minus) (word_number text)) t h) [
       | inl e ↦
           let p = mapped (register_term minus) (register_of text) t e in
           subst (IsSignedTerm minus text) p.2 (inr (inl (p.0, register-known text p.0 p.1, refl, refl)), refl)
       | inr e ↦
-          let p = mapped (number_term minus) (number_of text) t e in
+          let p = mapped (number_term minus) (word_number text) t e in
           subst (IsSignedTerm minus text) p.2 (inl (number-known text p.0 p.1, refl), refl)
     ]
 term-by minus text (Some factors) t cut h =
-    let c = bind_some (number_of factors.0) (λ c. register_of factors.1 >>= λ n. Some (product_term minus c n)) t h in
+    let c = bind_some (word_number factors.0) (λ c. register_of factors.1 >>= λ n. Some (product_term minus c n)) t h in
     let n = bind_some (register_of factors.1) (λ n. Some (product_term minus c.0 n)) t c.2 in
     let means : product_term minus c.0 n.0 ≡ t = same_Some (product_term minus c.0 n.0) t n.2 in
     subst (IsSignedTerm minus text) means
@@ -110,25 +96,25 @@ number-first (b ∷ bs) high =
 
 register-lacks : (text : List ℕ) (n : ℕ) → IsGeneral text n 64 → (lacks 42 text ≡ true) × (lacks_signs text ≡ true)
 register-lacks text n is =
-    let star : lacks 42 is.0 ≡ true = list_all-at (lacks 42) names_64 n is.0 refl is.1 in
-    let signs : lacks_signs is.0 ≡ true = list_all-at lacks_signs names_64 n is.0 refl is.1 in
-    (subst (λ (x : List ℕ). lacks 42 x ≡ true) (sym is.2) star, subst (λ (x : List ℕ). lacks_signs x ≡ true) (sym is.2) signs)
+    let star : lacks 42 is.0.name ≡ true = list_all-at (lacks 42) (register_names 64) n is.0.name refl is.0.known in
+    let signs : lacks_signs is.0.name ≡ true = list_all-at lacks_signs (register_names 64) n is.0.name refl is.0.known in
+    (subst (λ (x : List ℕ). lacks 42 x ≡ true) (sym is.0.spelled) star, subst (λ (x : List ℕ). lacks_signs x ≡ true) (sym is.0.spelled) signs)
 
 term-only : (text : List ℕ) (t : Term) → IsTermText text t → term_of t.minus text ≡ Some t
 unfolding term_of
 term-only text t (inl p) =
     let high = number-high text t.c p.0 in
-    let cut = cut_at-none 42 text (high-lacks 42 text (omega arith) high) in
+    let cut = cut-none 42 text (high-lacks 42 text (omega arith) high) in
     let other = number-first text high in
     let number = number-only text t.c p.0 in
     rw (cut, other, number) (ap (λ (r : Option ℕ). Some (record { minus = t.minus; c = t.c; reg = r })) (sym p.1))
 term-only text t (inr (inl p)) =
-    let cut = cut_at-none 42 text (register-lacks text p.0 p.1).0 in
+    let cut = cut-none 42 text (register-lacks text p.0 p.1).0 in
     let register = register-only text p.0 p.1 in
     rw (cut, register)
     (ap (λ (c : ℕ). Some (record { minus = t.minus; c = c; reg = Some p.0 })) (sym p.2) ∙ ap (λ (r : Option ℕ). Some (record { minus = t.minus; c = t.c; reg = r })) (sym p.3))
 term-only text t (inr (inr p)) =
-    let cut = cut_at-some 42 p.0 p.1 (high-lacks 42 p.0 (omega arith) (number-high p.0 t.c p.3)) refl in
+    let cut = cut-only 42 p.0 p.1 refl (high-lacks 42 p.0 (omega arith) (number-high p.0 t.c p.3)) in
     let number = number-only p.0 t.c p.3 in
     let register = register-only p.1 p.2 p.4 in
     rw (p.5, cut, number, register) (ap (λ (r : Option ℕ). Some (record { minus = t.minus; c = t.c; reg = r })) (sym p.6))
@@ -277,10 +263,10 @@ expr-only text e is = let ts = terms-only e.terms 8 false text is.terms (has-sig
 term-sound : (text : List ℕ) (t : Term) → IsTermText text t → IsTerm t
 term-sound text t (inl p) = record { number = p.0.small; register = subst (λ (r : Option ℕ). IfSome r (λ n. n < 16)) (sym p.1) tt }
 term-sound text t (inr (inl p)) =
-    let inside : p.0 < 16 = slice_get_within names_64 p.0 p.1.0 p.1.1 in
+    let inside : p.0 < 16 = slice_get_within (register_names 64) p.0 p.1.0.name p.1.0.known in
     record { number = omega (arith, p.2); register = subst (λ (r : Option ℕ). IfSome r (λ n. n < 16)) (sym p.3) inside }
 term-sound text t (inr (inr p)) =
-    let inside : p.2 < 16 = slice_get_within names_64 p.2 p.4.0 p.4.1 in
+    let inside : p.2 < 16 = slice_get_within (register_names 64) p.2 p.4.0.name p.4.0.known in
     record { number = p.3.small; register = subst (λ (r : Option ℕ). IfSome r (λ n. n < 16)) (sym p.6) inside }
 
 terms-sound : (text : List ℕ) (ts : List Term) → AreTermTexts text ts → (0 < length ts) × AllByRecursion IsTerm ts

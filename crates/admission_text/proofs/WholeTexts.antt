@@ -11,14 +11,15 @@ use Rattle.admission_text.specs.declared.entry.Draft.{Draft}
 use Rattle.admission_text.specs.declared.entry.Entry.{Entry}
 use Rattle.admission_text.specs.declared.refusal.AdmitRefusal.{AdmitRefusal}
 use Rattle.admission_text.specs.declared.refusal.AdmitRefusal.TheVariants.{BadLine, TooMany, NoLive, Memory}
-use Rattle.admission_text.specs.Grammar.{IsEntry, Line, is_skipped, lines_from, lines_of, parts}
+use Rattle.text_parts.specs.Cuts.{parts}
+use Rattle.admission_text.specs.Grammar.{IsEntry, Line, is_skipped, lines_from, lines_of}
 use Rattle.admission_text.specs.Entries.{AreEntries, IsAdmissionText, goes_over, with_entries}
 use Rattle.admission_text.specs.Refusals.{Dead, Faulty, IsLineFault, IsAdmissionRefusal, fault_line, given, line_number, rank}
 use Rattle.admission_text.specs.Reading.{entry_of}
 use Rattle.admission_text.specs.ReadingLines.{admission_of, behind_line, behind_lines, drafted_with, finished, is_over, judged, next_line, no_draft}
 use Rattle.admission_text.proofs.EntryTexts.{Tells, entry-known, entry-only}
 use Rattle.admission_text.proofs.Drafts.{formed-more, formed-none, over-same, tells-more, tells-none}
-use Rattle.admission_text.proofs.TextParts.{first-same, rest-same}
+use Rattle.text_parts.proofs.WordTexts.{first-same, rest-same}
 
 -- the entries of lines, one after another, with true numbers of lines
 

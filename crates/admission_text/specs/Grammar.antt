@@ -3,7 +3,7 @@
 -- A text is cut into lines at newlines, and a line into words at single spaces. Empty lines and lines that begin with `#`
 -- are skipped.
 use Rattle.std.specs.Prelude.{◌≡◌, ◌≢◌, ◌⊎◌, ℕ, ◌+◌, ◌%◌, ◌<◌, ◌≤◌, Bool, true, false, ◌||◌, ◌&&◌, ◌==◌, nat_le, List, [], ◌∷◌, ◌++◌, length, Option, Some, None, codes, bytes_eq, if◌then◌else◌}
-use Rattle.std.specs.List.{list_all, list_any, filter_map, slice_split, AllZip}
+use Rattle.std.specs.List.{list_all, list_any, filter_map, AllZip}
 use Rattle.admission.specs.declared.expr.Term.{Term}
 use Rattle.admission.specs.declared.expr.Expr.{Expr}
 use Rattle.admission.specs.declared.admission.Rel.{Rel}
@@ -14,11 +14,9 @@ use Rattle.admission.specs.declared.admission.RegionLine.{RegionLine}
 use Rattle.admission.specs.WellFormed.{IsFirstAdded, IsModulus}
 use Rattle.admission_text.specs.declared.entry.Entry.{Entry}
 use Rattle.admission_text.specs.declared.entry.Entry.TheVariants as entries
-use Rattle.admission_text.specs.Names.{IsGeneral, IsNumberText, IsOutputText, place_from}
-
--- the parts of a text between these bytes
-abbrev pub parts : ℕ → List ℕ → List (List ℕ)
-parts byte text = slice_split (λ b. b == byte) text
+use Rattle.admission_text.specs.Names.{IsGeneral, IsNumberText, IsOutputText}
+use Rattle.text_parts.specs.Cuts.{parts}
+use Rattle.text_parts.specs.Places.{place_from}
 
 -- a line that is not skipped: its number, counted from 1, and its words
 pub record Line : Type 0 where

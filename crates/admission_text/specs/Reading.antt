@@ -1,7 +1,6 @@
 -- What each function of the code reads of a line, as functions on lists.
-use Rattle.std.specs.Prelude.{ℕ, zero, suc, ◌+◌, ◌-◌, ◌*◌, ◌%◌, ◌^◌, Bool, true, false, not, ◌&&◌, ◌||◌, ◌==◌, nat_lt, nat_le, if◌then◌else◌, List, [], ◌∷◌, length, map, Option, Some, None, is_none, option_and_then, slice_index, codes, bytes_eq}
+use Rattle.std.specs.Prelude.{ℕ, zero, suc, ◌-◌, ◌%◌, ◌^◌, Bool, true, false, not, ◌&&◌, ◌||◌, ◌==◌, nat_lt, nat_le, if◌then◌else◌, List, [], ◌∷◌, length, map, Option, Some, None, is_none, codes, bytes_eq}
 use Rattle.std.specs.List.{list_all}
-use Rattle.std.specs.Char.{is_ascii_digit}
 use Rattle.std.specs.Option.{option_map, option_or}
 use Rattle.insn_ops.specs.declared.output.Output.{Output}
 use Rattle.insn_ops.specs.declared.output.Output.TheVariants.{Reg, Vec}
@@ -17,159 +16,31 @@ use Rattle.admission_text.specs.declared.entry.Entry.{Entry}
 use Rattle.admission_text.specs.declared.entry.Entry.TheVariants as entries
 use Rattle.admission_text.specs.declared.entry.Keyword.{Keyword}
 use Rattle.admission_text.specs.declared.entry.Keyword.TheVariants as words
-use Rattle.admission_text.specs.Names.{numerals, general_names, place_from, is_hex_digit, hex_digit_value}
-use Rattle.admission_text.specs.Grammar.{is_lower, is_name_byte, parts, region_number}
+use Rattle.register_names.specs.Reading.{register_named, register_number}
+use Rattle.text_parts.specs.Cuts.{◌>>=◌, after_byte, cut_at, first_part, five_words, four_words, one_word, parts_left, three_words, two_words}
+use Rattle.text_parts.specs.Numbers.{amount_of, within}
+use Rattle.admission_text.specs.Grammar.{is_lower, is_name_byte, region_number}
 
-infixl 10 ◌>>=◌
--- what follows, where there is a value
-abbrev pub ◌>>=◌ : {A B : Type 0} → Option A → (A → Option B) → Option B
-o >>= f = option_and_then f o
-
--- cuts
-
--- what stands behind this first byte
-unfoldable pub after_byte : ℕ → List ℕ → Option (List ℕ)
-after_byte byte [] = None
-after_byte byte (b ∷ rest) = if b == byte then Some rest else None
-
--- a byte before the first of two parts
-abbrev pub onto_front : ℕ → Option (List ℕ × List ℕ) → Option (List ℕ × List ℕ)
-onto_front b None = None
-onto_front b (Some found) = Some (b ∷ found.0, found.1)
-
--- the parts before and behind the first such byte
-unfoldable pub cut_at : ℕ → List ℕ → Option (List ℕ × List ℕ)
-cut_at byte [] = None
-cut_at byte (b ∷ bs) = if b == byte then Some ([], bs) else onto_front b (cut_at byte bs)
-
--- the part before a cut and the part behind it, or the whole text
-abbrev pub first_by : List ℕ → Option (List ℕ × List ℕ) → List ℕ × Option (List ℕ)
-first_by text None = (text, None)
-first_by text (Some found) = (found.0, Some found.1)
-
--- the part before the first such byte, and what stands behind it, where there is one
-unfoldable pub first_part : ℕ → List ℕ → List ℕ × Option (List ℕ)
-first_part byte text = first_by text (cut_at byte text)
-
--- the parts of what is left
-abbrev pub parts_left : ℕ → Option (List ℕ) → List (List ℕ)
-parts_left byte None = []
-parts_left byte (Some text) = parts byte text
-
--- one, two, three, four or five words, which single spaces separate
-unfoldable pub one_word : List ℕ → Option (List ℕ)
-one_word text = if is_none (cut_at 32 text) then Some text else None
-
--- two of them
-unfoldable pub two_words : List ℕ → Option (List ℕ × List ℕ)
-two_words text = do
-  found ← cut_at 32 text
-  last ← one_word found.1
-  Some (found.0, last)
-
--- three of them
-unfoldable pub three_words : List ℕ → Option (List ℕ × List ℕ × List ℕ)
-three_words text = do
-  found ← cut_at 32 text
-  more ← two_words found.1
-  Some (found.0, more.0, more.1)
-
--- four of them
-unfoldable pub four_words : List ℕ → Option (List ℕ × List ℕ × List ℕ × List ℕ)
-four_words text = do
-  found ← cut_at 32 text
-  more ← three_words found.1
-  Some (found.0, more.0, more.1, more.2)
-
--- five of them
-unfoldable pub five_words : List ℕ → Option (List ℕ × List ℕ × List ℕ × List ℕ × List ℕ)
-five_words text = do
-  found ← cut_at 32 text
-  more ← four_words found.1
-  Some (found.0, more.0, more.1, more.2, more.3)
-
--- numbers
-
--- digits read behind those that gave n, as long as the number is below 2^64
-unfoldable pub decimal_from : ℕ → List ℕ → Option ℕ
-decimal_from n [] = Some n
-decimal_from n (c ∷ cs) =
-    if is_ascii_digit c then (if nat_lt (2 ^ 64 - 1) (10 * n + (c - 48)) then None else decimal_from (10 * n + (c - 48)) cs) else None
-
--- a number in decimal digits with no leading zero
-unfoldable pub decimal_of : List ℕ → Option ℕ
-decimal_of digits =
-    if (length digits == 0) || (nat_lt 1 (length digits) && (slice_index digits 0 == 48)) then None else decimal_from 0 digits
-
--- digits of base 16 read behind those that gave n, as long as the number is below 2^64
-unfoldable pub hex_from : ℕ → List ℕ → Option ℕ
-hex_from n [] = Some n
-hex_from n (c ∷ cs) =
-    if is_hex_digit c
-    then (if nat_lt (2 ^ 64 - 1) (16 * n + hex_digit_value c) then None else hex_from (16 * n + hex_digit_value c) cs)
-    else None
-
--- a number in digits of base 16
-unfoldable pub hex_of : List ℕ → Option ℕ
-hex_of digits = if length digits == 0 then None else hex_from 0 digits
-
--- the digits behind `0x`
-unfoldable pub hex_digits : List ℕ → Option (List ℕ)
-hex_digits text = do
-  rest ← after_byte 48 text
-  after_byte 120 rest
-
--- the number of these digits of base 16, or of the decimal digits of the text
-abbrev pub number_by : Option (List ℕ) → List ℕ → Option ℕ
-number_by None text = decimal_of text
-number_by (Some digits) text = hex_of digits
-
--- the number that is written so
-unfoldable pub number_of : List ℕ → Option ℕ
-number_of text = number_by (hex_digits text) text
+-- the number below 2^64 that is written so
+unfoldable pub word_number : List ℕ → Option ℕ
+word_number text = within (2 ^ 64 - 1) (amount_of text)
 
 -- registers
 
--- the number of the general register of w bits of this name
-unfoldable pub general_number : ℕ → List ℕ → Option ℕ
-general_number w name = place_from 0 (general_names w) name
-
--- the number of a numeral from 0 to 15
-unfoldable pub numeral_number : List ℕ → Option ℕ
-numeral_number name = place_from 0 numerals name
-
 -- the number of the 64-bit register that is written so
 unfoldable pub register_of : List ℕ → Option ℕ
-register_of text = do
-  name ← after_byte 37 text
-  general_number 64 name
+register_of text = after_byte 37 text >>= register_number 64
 
--- the general register of w bits of this name
-unfoldable pub general_output : ℕ → List ℕ → Option Output
-general_output w name = do
-  n ← general_number w name
-  Some (Reg n w)
-
--- the vector register whose name begins with this letter and `mm`
-unfoldable pub vector_output : ℕ → ℕ → List ℕ → Option Output
-vector_output letter w name = do
-  behind ← after_byte letter name
-  more ← after_byte 109 behind
-  numeral ← after_byte 109 more
-  n ← numeral_number numeral
-  Some (Vec n w)
-
--- the register of this name, without its percent sign
-unfoldable pub output_named : List ℕ → Option Output
-output_named name =
-    option_or (option_or (option_or (option_or (option_or (general_output 64 name) (general_output 32 name))
-    (general_output 16 name)) (general_output 8 name)) (vector_output 120 128 name)) (vector_output 121 256 name)
+-- the output that register n of w bits is
+abbrev pub output_at : ℕ → ℕ → Output
+output_at w n = if nat_le w 64 then Reg n w else Vec n w
 
 -- the output that is written so
 unfoldable pub output_of : List ℕ → Option Output
 output_of text = do
   name ← after_byte 37 text
-  output_named name
+  register ← register_named name
+  Some (output_at register.0 register.1)
 
 -- the outputs that are written so, one a word
 unfoldable pub outputs_of : List (List ℕ) → Option (List Output)
@@ -182,9 +53,9 @@ outputs_of (word ∷ more) = output_of word >>= λ output. (outputs_of more >>= 
 abbrev pub term_by : Bool → Option (List ℕ × List ℕ) → List ℕ → Option Term
 term_by minus None text =
     option_or (option_map (λ n. record { minus = minus; c = 1; reg = Some n }) (register_of text))
-    (option_map (λ c. record { minus = minus; c = c; reg = None }) (number_of text))
+    (option_map (λ c. record { minus = minus; c = c; reg = None }) (word_number text))
 term_by minus (Some factors) text =
-    number_of factors.0 >>= λ c. register_of factors.1 >>= λ n. Some (record { minus = minus; c = c; reg = Some n })
+    word_number factors.0 >>= λ c. register_of factors.1 >>= λ n. Some (record { minus = minus; c = c; reg = Some n })
 
 -- the term that is written so, added or subtracted
 unfoldable pub term_of : Bool → List ℕ → Option Term
@@ -258,8 +129,8 @@ region_entry d rest = do
 -- `E mod M = R` behind `require`
 unfoldable pub modulo_need : List ℕ → List ℕ → List ℕ → List ℕ → List ℕ → Option Need
 modulo_need left word modulus equals rest = do
-  m ← (if bytes_eq word (codes "mod") && bytes_eq equals (codes "=") then number_of modulus else None)
-  r ← number_of rest
+  m ← (if bytes_eq word (codes "mod") && bytes_eq equals (codes "=") then word_number modulus else None)
+  r ← word_number rest
   a ← (if is_modulus m && nat_lt r m then expr_of left else None)
   Some (Modulo a m r)
 
@@ -300,7 +171,7 @@ scratch_entry rest = do
 unfoldable pub stack_entry : Draft → List ℕ → Option Entry
 stack_entry d rest = do
   word ← (if d.stacked then None else one_word rest)
-  n ← number_of word
+  n ← word_number word
   if ((n % 8) == 0) && nat_le n 4096 then Some (entries.Stack n) else None
 
 -- the outputs behind `live`, where no line before was `live`

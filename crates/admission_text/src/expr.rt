@@ -2,12 +2,12 @@
 ghost use Rattle.std.specs.Prelude.{◌≡◌, IfOk};
 ghost use Rattle.admission_text.specs.Reading as reading;
 
-use crate::cuts::{cut_at, cut_sign};
-use crate::number::number_of;
-use crate::register::register_of;
+use crate::cuts::cut_sign;
+use crate::register::{register_of, word_number};
 use admission::{Expr, Items, Term};
 use outcomes::Memory;
 use std::alloc::Global;
+use text_parts::cut_at;
 
 // How many terms an expression may have.
 const MOST_TERMS: usize = 8;
@@ -18,7 +18,7 @@ fn term_of(text: &[u8], minus: bool) -> Option<Term>
     ensures { result ≡ reading.term_of minus text.now }
 {
     if let Some((number, register)) = cut_at(text, b'*') {
-        let c = number_of(number)?;
+        let c = word_number(number)?;
         let n = register_of(register)?;
         return Some(Term {
             minus,
@@ -33,7 +33,7 @@ fn term_of(text: &[u8], minus: bool) -> Option<Term>
             reg: Some(n),
         });
     }
-    let c = number_of(text)?;
+    let c = word_number(text)?;
     Some(Term {
         minus,
         c,

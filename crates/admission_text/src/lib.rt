@@ -13,12 +13,10 @@ mod entry;
 mod expr;
 mod laws;
 mod line;
-mod number;
 mod read;
 mod refusal;
 mod register;
 
 pub use laws::admissions_have_one_meaning;
-pub use number::{hex_digit_value, is_hex_digit};
 pub use read::read_admission;
 pub use refusal::AdmitRefusal;

@@ -6,17 +6,17 @@ ghost use Rattle.std.specs.Char.{is_ascii_digit};
 ghost use Rattle.admission.specs.declared.admission.RegionLine.{RegionLine};
 ghost use Rattle.admission_text.specs.Grammar as grammar;
 ghost use Rattle.admission_text.specs.Reading as reading;
+ghost use Rattle.text_parts.specs.Cuts as cuts;
 
-use crate::cuts::{first_part, five_words, four_words, one_word, three_words, two_words};
 use crate::entry::{Draft, Entry, Keyword};
 use crate::expr::expr_of;
-use crate::number::number_of;
-use crate::register::output_of;
+use crate::register::{output_of, word_number};
 use admission::{Items, Need, RegionLine, Rel};
 use align_base::Word;
 use insn_ops::Output;
 use outcomes::Memory;
 use std::alloc::Global;
+use text_parts::{first_part, five_words, four_words, one_word, three_words, two_words};
 
 // The relation that is written so.
 #[tactic(auto, unfolding(crate::specs::Reading::relation_of))]
@@ -76,7 +76,7 @@ fn region_number(regions: &[RegionLine], name: &[u8]) -> Option<u32>
 {
     let mut number = 0u32;
     for region in regions {
-        if name == region.name.bytes() {
+        if region.name.bytes() == name {
             return Some(number);
         }
         number += 1;
@@ -160,10 +160,10 @@ fn modulo_need(
     if word != b"mod".as_slice() || equals != b"=".as_slice() {
         return Ok(None);
     }
-    let Some(m) = number_of(modulus) else {
+    let Some(m) = word_number(modulus) else {
         return Ok(None);
     };
-    let Some(r) = number_of(rest) else {
+    let Some(r) = word_number(rest) else {
         return Ok(None);
     };
     if !is_modulus(m) || r >= m {
@@ -199,7 +199,7 @@ fn compare_need(
 
 // What a `require` line asks.
 fn need_of(alloc: Global, rest: &[u8]) -> Result<Option<Need>, Memory>
-    ensures { IfOk result (λ found. found ≡ reading.need_by (reading.five_words rest.now) rest.now) }
+    ensures { IfOk result (λ found. found ≡ reading.need_by (cuts.five_words rest.now) rest.now) }
 {
     if let Some((left, word, modulus, equals, last)) = five_words(rest) {
         return modulo_need(alloc, left, word, modulus, equals, last);
@@ -262,7 +262,7 @@ fn stack_entry(draft: &Draft, rest: &[u8]) -> Option<Entry>
         return None;
     }
     let word = one_word(rest)?;
-    let bytes = number_of(word)?;
+    let bytes = word_number(word)?;
     if bytes % 8 == 0 && bytes <= 4096 {
         Some(Entry::Stack(bytes))
     } else {
@@ -272,7 +272,7 @@ fn stack_entry(draft: &Draft, rest: &[u8]) -> Option<Entry>
 
 // The outputs of words, if there are any.
 fn outputs_of(alloc: Global, rest: Option<&[u8]>) -> Result<Option<Items<Output>>, Memory>
-    ensures { IfOk result (λ found. found ≡ reading.outputs_of (reading.parts_left 32 (option_map (λ t. t.now) rest.entry))) }
+    ensures { IfOk result (λ found. found ≡ reading.outputs_of (cuts.parts_left 32 (option_map (λ t. t.now) rest.entry))) }
 {
     let mut live = Items::new(alloc);
     let mut left = rest;

@@ -1,7 +1,8 @@
 //! Reads whole texts.
 ghost use Rattle.std.specs.Prelude.{◌≡◌, ◌≤◌, length, IfOk};
 ghost use Rattle.outcomes.specs.Answering.{Answers, Gives};
-ghost use Rattle.admission_text.specs.Grammar.{is_skipped, parts};
+ghost use Rattle.text_parts.specs.Cuts.{parts};
+ghost use Rattle.admission_text.specs.Grammar.{is_skipped};
 ghost use Rattle.admission_text.specs.ReadingLines as lines;
 ghost use Rattle.admission_text.specs.Refusals.{IsAdmissionRefusal};
 ghost use Rattle.admission_text.specs.Entries.{IsAdmissionText};
@@ -9,12 +10,12 @@ ghost use Rattle.admission_text.specs.declared.refusal.AdmitRefusal.{AdmitRefusa
 ghost use Rattle.admission.specs.declared.admission.Admission.{Admission};
 ghost use Rattle.admission.specs.WellFormed.{IsWellFormed};
 
-use crate::cuts::first_part;
 use crate::entry::{Draft, Entry};
 use crate::line::entry_of;
 use crate::refusal::AdmitRefusal;
 use admission::Admission;
 use std::alloc::Global;
+use text_parts::first_part;
 
 // Whether a line is empty or a comment.
 fn is_skipped(line: &[u8]) -> bool

@@ -12,7 +12,8 @@ use Rattle.insn_table.specs.Table.{IsScale, HasRegisters, IsTableInsn}
 use Rattle.insn_table.specs.Closed.{IsInside}
 use Rattle.insn_table.proofs.TableInsns.{fitted-insn}
 use Rattle.register_names.proofs.NameTexts.{names_there}
-use Rattle.att_statements.specs.Operands.{IsRegisterText, IsBase, IsIndex, AreAddressParts, Written, Immediate, Label, Plain, IsOperandText, IsOperandPart}
+use Rattle.register_names.specs.Names.{IsRegisterText}
+use Rattle.att_statements.specs.Operands.{IsBase, IsIndex, AreAddressParts, Written, Immediate, Label, Plain, IsOperandText, IsOperandPart}
 use Rattle.att_statements.specs.Statements.{AreWritten, StandsFor, StandFor, HasPlace, four, IsInsnText}
 
 -- what an operand of a function of n instructions may be

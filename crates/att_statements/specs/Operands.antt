@@ -5,7 +5,7 @@ use Rattle.insn_table.specs.declared.insn.Operand.{Operand}
 use Rattle.insn_table.specs.declared.insn.Operand.TheVariants.{Reg, Vec, Mem}
 use Rattle.insn_table.specs.Table.{IsScale}
 use Rattle.std.specs.Str.Parse.{IsNumeral}
-use Rattle.register_names.specs.Names.{IsRegisterName}
+use Rattle.register_names.specs.Names.{IsRegisterText}
 use Rattle.text_lines.specs.Words.{IsName, IsPadded}
 use Rattle.text_parts.specs.Numbers.{IsAmount, IsDecimal, IsHexadecimal}
 
@@ -21,12 +21,6 @@ IsNumber text true n = (amount : List ℕ) × (text ≡ codes "-" ++ amount) × 
 -- register n of w bits as an operand
 abbrev pub register_operand : ℕ → ℕ → Operand
 register_operand w n = if w == 128 || w == 256 then Vec n w else Reg n w
-
--- `%` and the name of register n of w bits
-pub record IsRegisterText (text : List ℕ) (n w : ℕ) : Type 0 where
-  pub name : List ℕ
-  pub known : IsRegisterName name w n
-  pub spelled : text ≡ codes "%" ++ name
 
 -- commas
 

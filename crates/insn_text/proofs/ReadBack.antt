@@ -11,12 +11,12 @@ use Rattle.insn_table.specs.Table.{IsScale}
 use Rattle.text_lines.specs.Bytes.{is_blank}
 use Rattle.text_lines.specs.Words.{IsPadded, IsTrimmed}
 use Rattle.register_names.proofs.NameTexts.{all-names}
-use Rattle.register_names.specs.Names.{register_names}
+use Rattle.register_names.specs.Names.{IsRegisterText, register_names}
 use Rattle.std.specs.Char.{digit_value}
 use Rattle.text_parts.proofs.NumberTexts.{tests-only}
 use Rattle.text_parts.proofs.Printed.{decimal-is}
 use Rattle.att_statements.specs.Statements.{word_of}
-use Rattle.att_statements.specs.Operands.{AreAddressParts, AreParts, Immediate, IsAddressRegister, IsBase, IsBetween, IsDisplacement, IsIndex, IsMemoryText, IsOperandText, IsRegisterText, IsScaleText, IsUncut, Plain, integer, open_after, open_behind}
+use Rattle.att_statements.specs.Operands.{AreAddressParts, AreParts, Immediate, IsAddressRegister, IsBase, IsBetween, IsDisplacement, IsIndex, IsMemoryText, IsOperandText, IsScaleText, IsUncut, Plain, integer, open_after, open_behind}
 use Rattle.insn_text.specs.InsnText.{displacement_text, memory_text, number_text, operand_text, register_text, scaled_text}
 use Rattle.insn_text.specs.ReadBack.{NumberReadBack}
 

@@ -1,5 +1,5 @@
 -- The names of registers, by width and number.
-use Rattle.std.specs.Prelude.{◌≡◌, ◌⊎◌, ℕ, ◌==◌, if◌then◌else◌, List, [], ◌∷◌, Some, codes, slice_get}
+use Rattle.std.specs.Prelude.{◌≡◌, ◌⊎◌, ℕ, ◌==◌, if◌then◌else◌, List, [], ◌∷◌, ◌++◌, Some, codes, slice_get}
 
 -- the registers of w bits, by number: general ones of up to 64 bits, vectors of 128 and 256
 abbrev pub register_names : ℕ → List (List ℕ)
@@ -37,3 +37,9 @@ IsNamedWidth w = (w ≡ 64) ⊎ ((w ≡ 32) ⊎ ((w ≡ 16) ⊎ ((w ≡ 8) ⊎ (
 -- register n of w bits has this name
 abbrev pub IsRegisterName : List ℕ → ℕ → ℕ → Type 0
 IsRegisterName name w n = slice_get (register_names w) n ≡ Some name
+
+-- `%` and the name of register n of w bits
+pub record IsRegisterText (text : List ℕ) (n w : ℕ) : Type 0 where
+  pub name : List ℕ
+  pub known : IsRegisterName name w n
+  pub spelled : text ≡ codes "%" ++ name

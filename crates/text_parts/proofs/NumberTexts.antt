@@ -4,7 +4,7 @@ use Rattle.std.specs.Char.{digit_value}
 use Rattle.std.specs.List.{list_all}
 use Rattle.std.specs.Option.{option_or}
 use Rattle.std.specs.Str.Parse.{AllDigits, IsNumeral, digits_value, digits_value_after}
-use Rattle.std.proofs.lemmas.Bool.{and_parts, and_from, and_cases, and_right, ltb-true, ltb-false, lt-ltb, le-ltb, leb-true, leb-false, eqb-true, eqb-false}
+use Rattle.std.proofs.lemmas.Bool.{and_parts, and_from, and_cases, and_right, ltb-true, ltb-false, lt-ltb, le-ltb, le-leb, leb-true, leb-false, eqb-true, eqb-false}
 use Rattle.std.proofs.lemmas.Option.{same_Some}
 use Rattle.text_parts.specs.Cuts.{◌>>=◌, after_byte}
 use Rattle.text_parts.specs.Numbers.{IsDecimal, IsHexadecimal, IsAmount, are_digits, digits_of, has_leading_zero, decimal_of, hexadecimal_of, amount_of, capped, within}
@@ -87,6 +87,17 @@ within_capped greatest (Some n) small =
   where
     lower : (m g : ℕ) → g < m → leb m g ≡ false
     lower m g above = grind arith
+
+-- a number within a bound is the number
+pub within-known : (greatest : ℕ) (o : Option ℕ) (n : ℕ) → within greatest o ≡ Some n → (o ≡ Some n) × (n ≤ greatest)
+within-known greatest None n h = cc
+within-known greatest (Some m) n h =
+    let p = chosen_then (leb m greatest) (Some m) n h in
+    let same : m ≡ n = same_Some m n p.1 in
+    (p.1, omega (arith, leb-true m greatest p.0))
+
+pub within-only : (greatest : ℕ) (o : Option ℕ) (n : ℕ) → o ≡ Some n → n ≤ greatest → within greatest o ≡ Some n
+within-only greatest o n is low = let small : leb n greatest ≡ true = le-leb n greatest low in rw (is, small) refl
 
 -- digits
 
@@ -189,3 +200,25 @@ pub amount-only : (text : List ℕ) (n : ℕ) → IsAmount text n → amount_of 
 unfolding amount_of
 amount-only text n (inl d) = let none = decimal-no_hexadecimal text n d in rw none (decimal-only text n d)
 amount-only text n (inr d) = let some = hexadecimal-only text n d in rw some refl
+
+-- no byte of a number's text stands before the digits
+
+digit-high : (b : ℕ) → digit_value b < 16 → 48 ≤ b
+digit-high b digit =
+    elim (leb 48 b) as (λ t. leb 48 b ≡ t → 48 ≤ b) [
+      | true ↦ λ e. leb-true 48 b e
+      | false ↦ λ e.
+          let before : ltb b 48 ≡ true = lt-ltb b 48 (leb-false 48 b e) in
+          let other : digit_value b ≡ 36 = rw before refl in
+          absurd (omega arith)
+    ] refl
+
+digits-high : (radix : ℕ) (bs : List ℕ) → radix ≤ 16 → AllDigits radix bs → list_all (λ b. leb 48 b) bs ≡ true
+digits-high radix [] few h = refl
+digits-high radix (b ∷ bs) few h =
+    and_from (leb 48 b) (list_all (λ c. leb 48 c) bs) (le-leb 48 b (digit-high b (omega (arith, h.0)))) (digits-high radix bs few h.1)
+
+pub amount-high : (text : List ℕ) (n : ℕ) → IsAmount text n → list_all (λ b. leb 48 b) text ≡ true
+amount-high text n (inl d) = digits-high 10 text (omega arith) d.digits.1
+amount-high text n (inr d) =
+    subst (λ (t : List ℕ). list_all (λ b. leb 48 b) t ≡ true) (sym d.spelled) (digits-high 16 d.behind (omega arith) d.digits.1)

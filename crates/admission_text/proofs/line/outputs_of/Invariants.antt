@@ -1,7 +1,9 @@
 use Rattle.std.proofs.Common.{◌≡◌}
 use Rattle.std.specs.Option.{option_map}
-use Rattle.admission_text.specs.Reading.{outputs_of, parts_left}
-use Rattle.admission_text.proofs.Pieces.{before_those, left_size}
+use Rattle.text_parts.specs.Cuts.{parts_left}
+use Rattle.admission_text.specs.Reading.{outputs_of}
+use Rattle.admission_text.proofs.Pieces.{before_those}
+use Rattle.text_parts.proofs.WordTexts.{left_size}
 use Rattle.admission_text.proofs.line.outputs_of.Given as goal
 
 -- the outputs so far, and then what is left gives, are what all words give

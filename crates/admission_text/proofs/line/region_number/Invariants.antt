@@ -1,6 +1,6 @@
 use Rattle.std.proofs.Common.{◌≡◌, drop, map}
 use Rattle.admission.specs.declared.admission.RegionLine.{RegionLine}
-use Rattle.admission_text.specs.Names.{place_from}
+use Rattle.text_parts.specs.Places.{place_from}
 use Rattle.admission_text.proofs.line.region_number.Given as goal
 
 abbrev pub invariant-loop-region : goal.invariant-loop-region

@@ -1,9 +1,8 @@
 use Rattle.std.proofs.Common.{◌≡◌, ◌≤◌, length}
 use Rattle.std.specs.Option.{option_map}
-use Rattle.admission_text.specs.Grammar.{parts}
-use Rattle.admission_text.specs.Reading.{parts_left}
+use Rattle.text_parts.specs.Cuts.{parts, parts_left}
 use Rattle.admission_text.specs.ReadingLines.{behind_lines, no_draft}
-use Rattle.admission_text.proofs.Pieces.{left_size}
+use Rattle.text_parts.proofs.WordTexts.{left_size}
 use Rattle.admission_text.proofs.read.behind_lines.Given as goal
 
 -- what is left gives, behind the draft so far, what the whole text gives
