@@ -13,48 +13,48 @@ use crate::number::number_within;
 use crate::parser::{decide_of, parser_words, run_of, show_of};
 use align_base::Word;
 use outcomes::Memory;
-use std::alloc::{AllocError, Global};
+use std::alloc::Global;
 
 /// Whether an option is `--steps` with a number of steps.
-fn is_steps(alloc: Global, option: &Valued<'_>) -> Result<bool, AllocError>
-    ensures { IfOk result (λ yes. IsTrue yes ↔ ((n : ℕ) × (option.now.flag.now ≡ codes "--steps")
-        × IsNumberWithin 1 65536 option.now.value.now n)) }
+fn is_steps(option: &Valued<'_>) -> bool
+    ensures { IsTrue result ↔ ((n : ℕ) × (option.now.flag.now ≡ codes "--steps")
+        × IsNumberWithin 1 65536 option.now.value.now n) }
 {
     if option.flag != "--steps" {
-        return Ok(false);
+        return false;
     }
-    Ok(number_within(alloc, option.value, 1, 65_536)?.is_some())
+    number_within(option.value, 1, 65_536).is_some()
 }
 
 /// Whether the options of a line are none, or a number of steps alone.
-fn are_steps(alloc: Global, line: &Line<'_>) -> Result<bool, AllocError>
-    ensures { IfOk result (λ yes. IsTrue yes ↔ ((n : ℕ) × GiveSteps (line_view line.now).options n)) }
+fn are_steps(line: &Line<'_>) -> bool
+    ensures { IsTrue result ↔ ((n : ℕ) × GiveSteps (line_view line.now).options n) }
 {
     if line.options.len() > 1 {
-        return Ok(false);
+        return false;
     }
     match line.options.as_slice().first() {
-        None => Ok(true),
-        Some(option) => is_steps(alloc, option),
+        None => true,
+        Some(option) => is_steps(option),
     }
 }
 
 /// Decides by the rules of which command the name, the options and the plain arguments are.
-fn form_of(alloc: Global, name: &[u8], line: &Line<'_>) -> Result<Option<command::Form>, AllocError>
-    ensures some { IfOk result (λ found. IfSome found (IsOfForm name.now (line_view line.now))) }
-    ensures none { IfOk result (λ found. IfNone found ((form : Form) → IsOfForm name.now (line_view line.now) form → ⊥)) }
+fn form_of(name: &[u8], line: &Line<'_>) -> Option<command::Form>
+    ensures some { IfSome result (IsOfForm name.now (line_view line.now)) }
+    ensures none { IfNone result ((form : Form) → IsOfForm name.now (line_view line.now) form → ⊥) }
 {
     let plain = line.plain.len();
     if name == b"decide".as_slice() && plain == 4 && line.options.is_empty() {
-        return Ok(Some(command::Form::DecidePlain));
+        return Some(command::Form::DecidePlain);
     }
-    if name == b"run".as_slice() && plain == 4 && are_steps(alloc, line)? {
-        return Ok(Some(command::Form::Run));
+    if name == b"run".as_slice() && plain == 4 && are_steps(line) {
+        return Some(command::Form::Run);
     }
     if name == b"show".as_slice() && plain == 2 && line.options.is_empty() {
-        return Ok(Some(command::Form::Show));
+        return Some(command::Form::Show);
     }
-    Ok(None)
+    None
 }
 
 /// The values of a command of this form, as the parser reads them.
@@ -89,7 +89,7 @@ pub fn command_of(alloc: Global, arguments: &[Word]) -> Result<Option<Command>, 
     let Some(line) = line_of(alloc, behind)? else {
         return Ok(None);
     };
-    let Some(form) = form_of(alloc, name.bytes(), &line)? else {
+    let Some(form) = form_of(name.bytes(), &line) else {
         return Ok(None);
     };
     Ok(Some(values_of(alloc, form, &line)?))

@@ -1,47 +1,11 @@
--- Decimal numbers, and lists of them.
-use Rattle.std.proofs.Common.{rules, ◌≡◌, ℕ, ◌+◌, ◌^◌, ◌<◌, List, [], ◌∷◌, ◌++◌, Bool, true, false, Option, Some, None, Result, Ok, Err, length, map, refl, sym, ◌∙◌, ap, inl, inr, eqb-true, get_or, drop, suc, take, ◌==◌}
-use Rattle.std.specs.Prelude.{◌&&◌, nat_lt, if◌then◌else◌}
+-- Lists of numbers that are read one by one.
+use Rattle.std.proofs.Common.{◌≡◌, ℕ, ◌+◌, ◌<◌, List, [], ◌∷◌, ◌++◌, Option, Some, None, length, map, refl, sym, ◌∙◌, ap, get_or, drop, suc, take}
 use Rattle.std.specs.Option.{option_map}
-use Rattle.std.specs.Result.{OkIff, result_ok}
-use Rattle.std.specs.Str.{all_ascii_digits}
-use Rattle.std.specs.Str.Parse.{ParsesUnsigned}
-use Rattle.std.proofs.lemmas.Bool.{cases_lt, eq-eqb, le-ltb, lt-ltb}
 use Rattle.std.proofs.lemmas.List.{map-append, take-append-drop, take_more}
 use Rattle.std.proofs.lemmas.Simd.{map-map}
 use Rattle.std.proofs.Math.Seq.{drop-cons}
-use Rattle.std.proofs.lemmas.Str.Parse.{IsNumeralModel, numerals_by_fold, parse_plain}
-use Rattle.processor_cases.specs.Numbers.{all_values, decimal_behind, number_of, numbers_of, words_of}
-
--- what `parse` reads
-numerals : IsNumeralModel (λ ds. all_ascii_digits ds ≡ true) (decimal_behind 0)
-numerals = numerals_by_fold _ (search rules) decimal_behind (search rules)
-
-tested : (t : Bool) (l v : ℕ) → t ≡ true → 0 < l → v < 2 ^ 64 → Some v ≡ (if t && (nat_lt 0 l && nat_lt v (2 ^ 64)) then Some v else None)
-tested t l v h k j = rw (h, lt-ltb 0 l k, lt-ltb v (2 ^ 64) j) refl
-
-untested : (t : Bool) (l v : ℕ) → ¬ ((t ≡ true) × (0 < l) × (v < 2 ^ 64)) → None ≡ (if t && (nat_lt 0 l && nat_lt v (2 ^ 64)) then Some v else None)
-untested false l v h = refl
-untested true l v h = elim (cases_lt 0 l) [
-  | inl some ↦ elim (cases_lt v (2 ^ 64)) [
-    | inl low ↦ absurd (h (refl, some, low))
-    | inr high ↦ rw (lt-ltb 0 l some, le-ltb v (2 ^ 64) high) refl
-  ]
-  | inr none ↦ rw (le-ltb 0 l none) refl
-]
-
-number_by_cases : {E : Type 0} (w : List ℕ) (r : Result ℕ E) → OkIff r ((all_ascii_digits w ≡ true) × (0 < length w) × (decimal_behind 0 w < 2 ^ 64)) (decimal_behind 0 w)
-    → result_ok r ≡ number_of w
-number_by_cases w (Ok x) (p, e) = ap Some e ∙ tested (all_ascii_digits w) (length w) (decimal_behind 0 w) p.0 p.1 p.2
-number_by_cases w (Err x) p = untested (all_ascii_digits w) (length w) (decimal_behind 0 w) p
-
--- a word that `parse` reads, and that has no sign
-pub number_from_parse : {E : Type 0} (w : List ℕ) (r : Result ℕ E) → ParsesUnsigned 64 10 w r → (get_or w 0 0 == 43) ≡ false → result_ok r ≡ number_of w
-number_from_parse w r h plain = number_by_cases w r (parse_plain numerals 64 w r h (λ e. let yes : (get_or w 0 0 == 43) ≡ true = eq-eqb (get_or w 0 0) 43 e in cc))
-
--- a word with a sign is none
-pub number_of-sign : (w : List ℕ) → (get_or w 0 0 == 43) ≡ true → None ≡ number_of w
-number_of-sign [] h = refl
-number_of-sign (c ∷ cs) h = rw (eqb-true c 43 h) refl
+use Rattle.text_parts.specs.Cuts.{parts}
+use Rattle.processor_cases.specs.Numbers.{all_values, numbers_of, word_number}
 
 put_first : (o p : Option (List ℕ)) (m n : ℕ) (ys : List ℕ) → ((zs : List ℕ) → o ≡ Some zs → p ≡ Some (zs ++ n ∷ []))
     → option_map (λ ns. m ∷ ns) o ≡ Some ys → option_map (λ ns. m ∷ ns) p ≡ Some (ys ++ n ∷ [])
@@ -73,5 +37,5 @@ values_none f xs i d h v =
     ap (λ l. all_values (map f l)) (sym parts) ∙ rw (map-append, v) (all_values-none (map f (take i xs)) (map f (drop (suc i) xs)))
 
 -- the numbers of words that are read one by one
-pub numbers_of-words : {X : Type 0} (word : X → List ℕ) (xs : List X) (line : List ℕ) → map word xs ≡ words_of line → all_values (map (λ x. number_of (word x)) xs) ≡ numbers_of line
-numbers_of-words word xs line h = ap all_values (sym (map-map number_of word xs) ∙ ap (map number_of) h)
+pub numbers_of-words : {X : Type 0} (word : X → List ℕ) (xs : List X) (line : List ℕ) → map word xs ≡ parts 32 line → all_values (map (λ x. word_number (word x)) xs) ≡ numbers_of line
+numbers_of-words word xs line h = ap all_values (sym (map-map word_number word xs) ∙ ap (map word_number) h)

@@ -1,10 +1,12 @@
 //! The lines of a text, and the numbers of a line.
-ghost use Rattle.std.specs.Prelude.{◌≡◌, ◌==◌, IfOk, map, slice_index};
+ghost use Rattle.std.specs.Prelude.{◌≡◌, IfOk, map};
 ghost use Rattle.std.specs.Option.{option_map};
 ghost use Rattle.std.specs.Str.Lines.{lines};
-ghost use Rattle.processor_cases.specs.Numbers.{number_of, numbers_of, words_of};
+ghost use Rattle.processor_cases.specs.Numbers.{numbers_of, word_number};
+ghost use Rattle.text_parts.specs.Cuts.{parts};
 
 use std::alloc::{AllocError, Global};
+use text_parts::digits_within;
 
 /// The lines of a text.
 pub fn lines(alloc: Global, text: &str) -> Result<Vec<&str>, AllocError>
@@ -15,29 +17,16 @@ pub fn lines(alloc: Global, text: &str) -> Result<Vec<&str>, AllocError>
 
 /// The words of a line, between single spaces.
 fn words(alloc: Global, line: &str) -> Result<Vec<&str>, AllocError>
-    ensures { IfOk result (λ v. map (λ x. x.now) v.items ≡ words_of line.now) }
+    ensures { IfOk result (λ v. map (λ x. x.now) v.items ≡ parts 32 line.now) }
 {
     line.split(' ').collect(alloc)
 }
 
-/// Whether a word begins with a sign, which `parse` would take.
-fn has_sign(word: &str) -> bool
-    ensures { result ≡ (slice_index word.now 0 == 43) }
-{
-    match word.as_bytes() {
-        [first, ..] => *first == b'+',
-        [] => false,
-    }
-}
-
 /// A word as a decimal number; None where it is none, or not below 2^64.
 fn number(word: &str) -> Option<u64>
-    ensures { result ≡ number_of word.now }
+    ensures { result ≡ word_number word.now }
 {
-    if has_sign(word) {
-        return None;
-    }
-    word.parse::<u64>().ok()
+    digits_within(10, word.as_bytes(), u64::MAX)
 }
 
 /// The numbers of a line; None where a word of it is no number.

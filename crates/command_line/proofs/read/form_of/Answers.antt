@@ -9,10 +9,10 @@ returns-then-is_empty-clause-some c =
     let none : c.args.line.now.options.len ≡ 0 = eqb-true c.args.line.now.options.len 0 (sym c.is_empty.ensures ∙ c.if-is_empty.true) in
     (name, decide-form c.args.line.now (search rules) (omega arith))
 
-pub returns-then-branch-clause-some : goal.returns-then-branch-clause-some
-returns-then-branch-clause-some c =
+pub returns-then-are_steps-clause-some : goal.returns-then-are_steps-clause-some
+returns-then-are_steps-clause-some c =
     let name : c.args.name.now ≡ codes "run" = search rules in
-    (name, run-form c.args.line.now (search rules) (c.in_ok-are_steps.ensures.0 c.if-branch.true))
+    (name, run-form c.args.line.now (search rules) (c.are_steps.ensures.0 c.if-are_steps.true))
 
 pub returns-then-is_empty-2-clause-some : goal.returns-then-is_empty-2-clause-some
 returns-then-is_empty-2-clause-some c =

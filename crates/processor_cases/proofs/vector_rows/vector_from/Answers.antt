@@ -1,7 +1,5 @@
-use Rattle.std.proofs.Common.{◌≡◌, ℕ, ◌+◌, ◌-◌, ◌*◌, ◌++◌, [], get_or, refl, sym, ◌∙◌, ap, arith, append-nil}
-use Rattle.std.specs.Prelude.{replicate}
+use Rattle.std.proofs.Common.{◌+◌, get_or, refl, ◌∙◌, ap}
 use Rattle.lane_views.specs.Lanes.{with_lane}
-use Rattle.lane_semantics.specs.Vectors.{lanes_in_turn}
 use Rattle.lane_ops.proofs.Turns.{lane_added, zeros}
 use Rattle.processor_cases.proofs.vector_rows.vector_from.Goals as goal
 
