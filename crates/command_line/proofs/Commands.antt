@@ -7,13 +7,13 @@ use Rattle.command_line.specs.Command.{Command, DecidePlain, GiveSteps, IsArgume
 use Rattle.command_line.specs.Parts.{AreRead, Valued}
 use Rattle.command_line.specs.Parser.{AreOf, IsOfForm, name_of}
 use Rattle.command_line.specs.Reading.{Line, Usual, line_in}
-use Rattle.command_line.specs.declared.command.Form.{Form}
-use Rattle.command_line.specs.declared.command.Form.TheVariants as form
+use Rattle.command_line.specs.declared.command.CommandForm.{CommandForm}
+use Rattle.command_line.specs.declared.command.CommandForm.TheVariants as form
 use Rattle.command_line.proofs.Lines.{line-known, line-only}
 
 -- the arguments are a name and a line, which are those of this command
 pub record HasLine (arguments : List (List ℕ)) (command : Command) : Type 0 where
-  pub form : Form
+  pub form : CommandForm
   pub behind : List (List ℕ)
   pub line : Line
   pub whole : arguments ≡ name_of form ∷ behind
@@ -37,7 +37,7 @@ command-known arguments command h = go h.form command refl h.values
     read : (options : List Valued) (plain : List (List ℕ)) → h.line.options ≡ options → h.line.plain ≡ plain → AreRead h.behind options plain
     read options plain o p = subst (λ (x : List Valued). AreRead h.behind x plain) o (subst (λ (x : List (List ℕ)). AreRead h.behind h.line.options x) p (line-known h.behind h.line h.read))
 
-    go : (f : Form) (c : Command) → h.form ≡ f → AreOf f h.line c → IsCommand arguments c
+    go : (f : CommandForm) (c : Command) → h.form ≡ f → AreOf f h.line c → IsCommand arguments c
     go form.DecidePlain (DecidePlain left right) is values =
         record { behind = h.behind; command = h.whole ∙ ap (λ f. name_of f ∷ h.behind) is; each = h.each; read = read [] (plain_of (DecidePlain left right)) values.0 values.1 }
     go form.Run (Run run) is values = (
@@ -71,7 +71,7 @@ usage-unread arguments behind name whole none command is =
 
 -- what is read and has no form is no command
 pub usage-formless : (arguments behind : List (List ℕ)) (name : List ℕ) (line : Line) → arguments ≡ name ∷ behind → line_in Usual behind ≡ Some line
-    → ((f : Form) → IsOfForm name line f → ⊥) → IsUsageError arguments
+    → ((f : CommandForm) → IsOfForm name line f → ⊥) → IsUsageError arguments
 usage-formless arguments behind name line whole read none command is =
     let h = line-of-command arguments command is in
     let same = same-behind name (name_of h.form) behind h.behind (sym whole ∙ h.whole) in
@@ -101,7 +101,7 @@ run_from n ws = Run (record { function = record { file = get_or ws 0 []; name = 
 abbrev show_from : List (List ℕ) → Command
 show_from ws = Show (record { file = get_or ws 0 []; name = get_or ws 1 [] })
 
-values-once : (f : Form) (line : Line) (a b : Command) → AreOf f line a → AreOf f line b → a ≡ b
+values-once : (f : CommandForm) (line : Line) (a b : Command) → AreOf f line a → AreOf f line b → a ≡ b
 values-once form.DecidePlain line (DecidePlain l r) (DecidePlain m s) g h = ap decide_from (sym g.1 ∙ h.1)
 values-once form.Run line (Run r) (Run s) g h = ap₂ run_from (steps-once line.options r.steps s.steps g.1 h.1) (sym g.0 ∙ h.0)
 values-once form.Show line (Show l) (Show m) g h = ap show_from (sym g.1 ∙ h.1)
@@ -111,18 +111,18 @@ values-once form.Show line (Show l) _ g h = absurd h
 values-once _ line _ b g h = absurd g
 
 -- the form whose name begins with a letter
-abbrev form_at : ℕ → Form
+abbrev form_at : ℕ → CommandForm
 form_at letter = if letter == 100 then form.DecidePlain else if letter == 114 then form.Run else form.Show
 
 abbrev first_letter : List ℕ → ℕ
 first_letter name = get_or name 0 0
 
-form-back : (f : Form) → form_at (first_letter (name_of f)) ≡ f
+form-back : (f : CommandForm) → form_at (first_letter (name_of f)) ≡ f
 form-back form.DecidePlain = refl
 form-back form.Run = refl
 form-back form.Show = refl
 
-same-form : (f g : Form) → name_of f ≡ name_of g → f ≡ g
+same-form : (f g : CommandForm) → name_of f ≡ name_of g → f ≡ g
 same-form f g h = sym (form-back f) ∙ ap (λ (name : List ℕ). form_at (first_letter name)) h ∙ form-back g
 
 -- the arguments are one command at most
@@ -137,4 +137,4 @@ command-once arguments a b is too =
     let s = h.read in
     let lines : g.line ≡ h.line = cc in
     values-once h.form h.line a b
-    (subst (λ (f : Form). AreOf f h.line a) forms (subst (λ (l : Line). AreOf g.form l a) lines g.values)) h.values
+    (subst (λ (f : CommandForm). AreOf f h.line a) forms (subst (λ (l : Line). AreOf g.form l a) lines g.values)) h.values

@@ -14,7 +14,7 @@ use Rattle.clap.proofs.WalkLemmas.{first_value-rows, one_text-rows}
 use Rattle.command_line.specs.Command.{Command, DecidePlain, GiveSteps, IsNumberWithin, Run, Show}
 use Rattle.command_line.specs.Parts.{Valued}
 use Rattle.command_line.specs.Parser.{AreWords, GivesValue, GivesCommand, decide_parser, joined_option, run_parser, show_parser}
-use Rattle.command_line.specs.declared.command.Form.TheVariants as form
+use Rattle.command_line.specs.declared.command.CommandForm.TheVariants as form
 
 -- ---- the words of each form, with their plain arguments
 

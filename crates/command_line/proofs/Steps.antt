@@ -8,8 +8,8 @@ use Rattle.command_line.specs.Parser.{AreOf, AreWords, name_of, parser_words}
 use Rattle.command_line.specs.Reading.{Line}
 use Rattle.command_line.specs.View.{command_view, line_view, option_view}
 use Rattle.command_line.specs.declared.command.Command.{Command}
-use Rattle.command_line.specs.declared.command.Form.{Form}
-use Rattle.command_line.specs.declared.command.Form.TheVariants as form
+use Rattle.command_line.specs.declared.command.CommandForm.{CommandForm}
+use Rattle.command_line.specs.declared.command.CommandForm.TheVariants as form
 use Rattle.command_line.specs.declared.line.Line as seen
 use Rattle.command_line.specs.declared.line.Valued.{Valued}
 
@@ -86,12 +86,12 @@ show-form l many few =
     (Show (function_at ws 0 1), (ap (map option_view) (none l.options.items few), two ws count))
 
 -- the words that were made are those of the command
-pub made-words : (f g : Form) (l : Line) (slice items : List (String Global)) (c : plain.Command) → f ≡ g → AreOf f l c → slice ≡ items
+pub made-words : (f g : CommandForm) (l : Line) (slice items : List (String Global)) (c : plain.Command) → f ≡ g → AreOf f l c → slice ≡ items
     → map string_bytes items ≡ parser_words (name_of g) l → AreWords g (map string_bytes slice) c
 made-words f g l slice items c is values same made =
-    record { line = l; whole = ap (map string_bytes) same ∙ made; values = subst (λ (x : Form). AreOf x l c) is values }
+    record { line = l; whole = ap (map string_bytes) same ∙ made; values = subst (λ (x : CommandForm). AreOf x l c) is values }
 
 -- what was read from the words is the command
-pub read-values : {E : Type 0} (f g : Form) (l : Line) (words : List (List ℕ)) (r : Result Command E) (c : plain.Command) → AreOf f l c → AreWords g words c
+pub read-values : {E : Type 0} (f g : CommandForm) (l : Line) (words : List (List ℕ)) (r : Result Command E) (c : plain.Command) → AreOf f l c → AreWords g words c
     → IfOk r (λ found. (d : plain.Command) → AreWords g words d → command_view found ≡ d) → IfOk r (λ found. AreOf f l (command_view found))
 read-values f g l words r c values are h = IfOk-weaker r _ _ (λ found is. subst (λ (d : plain.Command). AreOf f l d) (sym (is c are)) values) h

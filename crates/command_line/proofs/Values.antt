@@ -4,7 +4,7 @@ use Rattle.clap.specs.Words.{found_of, one_text}
 use Rattle.clap.specs.declared.parser.matches.ArgMatches.{ArgMatches}
 use Rattle.command_line.specs.Command.{Command, DecidePlain, FunctionArguments, Run, RunArguments, Show}
 use Rattle.command_line.specs.Parser.{AreWords, GivesValue, GivesCommand}
-use Rattle.command_line.specs.declared.command.Form.TheVariants as form
+use Rattle.command_line.specs.declared.command.CommandForm.TheVariants as form
 
 -- a name gives one text
 same-text : (m : ArgMatches) (id a b : List ℕ) → GivesValue m id a → GivesValue m id b → a ≡ b

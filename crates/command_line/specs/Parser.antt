@@ -6,24 +6,24 @@ use Rattle.clap.specs.declared.parser.matches.ArgMatches.{ArgMatches}
 use Rattle.command_line.specs.Command.{Command, DecidePlain, GiveSteps, Run, Show, plain_of}
 use Rattle.command_line.specs.Parts.{Valued}
 use Rattle.command_line.specs.Reading.{Line}
-use Rattle.command_line.specs.declared.command.Form.{Form}
-use Rattle.command_line.specs.declared.command.Form.TheVariants as form
+use Rattle.command_line.specs.declared.command.CommandForm.{CommandForm}
+use Rattle.command_line.specs.declared.command.CommandForm.TheVariants as form
 
 -- what a command is called
-abbrev pub name_of : Form → List ℕ
+abbrev pub name_of : CommandForm → List ℕ
 name_of form.DecidePlain = codes "decide"
 name_of form.Run = codes "run"
 name_of form.Show = codes "show"
 
 -- options and plain arguments are those of this command, which has this form
-abbrev pub AreOf : Form → Line → Command → Type 0
+abbrev pub AreOf : CommandForm → Line → Command → Type 0
 AreOf form.DecidePlain line (DecidePlain left right) = (line.options ≡ []) × (line.plain ≡ plain_of (DecidePlain left right))
 AreOf form.Run line (Run run) = (line.plain ≡ plain_of (Run run)) × GiveSteps line.options run.steps
 AreOf form.Show line (Show function) = (line.options ≡ []) × (line.plain ≡ plain_of (Show function))
 AreOf _ line command = ⊥
 
 -- the name, the options and the plain arguments are those of some command of this form
-abbrev pub IsOfForm : List ℕ → Line → Form → Type 0
+abbrev pub IsOfForm : List ℕ → Line → CommandForm → Type 0
 IsOfForm name line form = (name ≡ name_of form) × ((command : Command) × AreOf form line command)
 
 -- an option as one argument
@@ -59,7 +59,7 @@ abbrev pub show_parser : App
 show_parser = with_rule (with_rule (new_app (codes "show")) (new_rule (codes "file"))) (new_rule (codes "function"))
 
 -- the words are those of this command, which has this form
-pub record AreWords (form : Form) (words : List (List ℕ)) (command : Command) : Type 0 where
+pub record AreWords (form : CommandForm) (words : List (List ℕ)) (command : Command) : Type 0 where
   pub line : Line
   pub whole : words ≡ parser_words (name_of form) line
   pub values : AreOf form line command

@@ -32,7 +32,7 @@ pub enum Command {
 
 /// The form of a command.
 #[derive(Clone, Copy, Debug, PartialEq, Eq)]
-pub enum Form {
+pub enum CommandForm {
     /// `decide LEFT F RIGHT G`
     DecidePlain,
     /// `run FILE F ADMIT TESTS`, with or without `--steps N`

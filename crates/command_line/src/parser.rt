@@ -6,7 +6,7 @@ ghost use Rattle.clap.specs.Words.{app_of, found_of, kind_of, new_rule, one_text
 ghost use Rattle.command_line.specs.Command as plain;
 ghost use Rattle.command_line.specs.Parser.{AreWords, GivesValue, GivesCommand, joined_option, parser_words};
 ghost use Rattle.command_line.specs.View.{command_view, line_view, option_view};
-ghost use Rattle.command_line.specs.declared.command.Form.TheVariants as form;
+ghost use Rattle.command_line.specs.declared.command.CommandForm.TheVariants as form;
 
 use crate::command::{Command, FunctionArguments, RunArguments};
 use crate::line::{Line, Valued};

@@ -4,7 +4,7 @@ ghost use Rattle.command_line.specs.Command as plain;
 ghost use Rattle.command_line.specs.Command.{GiveSteps, IsCommand, IsNumberWithin, IsUsageError};
 ghost use Rattle.command_line.specs.Parser.{AreOf, IsOfForm};
 ghost use Rattle.command_line.specs.View.{command_view, line_view};
-ghost use Rattle.command_line.specs.declared.command.Form.{Form};
+ghost use Rattle.command_line.specs.declared.command.CommandForm.{CommandForm};
 
 use crate::command;
 use crate::command::Command;
@@ -40,38 +40,38 @@ fn are_steps(line: &Line<'_>) -> bool
 }
 
 /// Decides by the rules of which command the name, the options and the plain arguments are.
-fn form_of(name: &[u8], line: &Line<'_>) -> Option<command::Form>
+fn form_of(name: &[u8], line: &Line<'_>) -> Option<command::CommandForm>
     ensures some { IfSome result (IsOfForm name.now (line_view line.now)) }
-    ensures none { IfNone result ((form : Form) → IsOfForm name.now (line_view line.now) form → ⊥) }
+    ensures none { IfNone result ((form : CommandForm) → IsOfForm name.now (line_view line.now) form → ⊥) }
 {
     let plain = line.plain.len();
     if name == b"decide".as_slice() && plain == 4 && line.options.is_empty() {
-        return Some(command::Form::DecidePlain);
+        return Some(command::CommandForm::DecidePlain);
     }
     if name == b"run".as_slice() && plain == 4 && are_steps(line) {
-        return Some(command::Form::Run);
+        return Some(command::CommandForm::Run);
     }
     if name == b"show".as_slice() && plain == 2 && line.options.is_empty() {
-        return Some(command::Form::Show);
+        return Some(command::CommandForm::Show);
     }
     None
 }
 
 /// The values of a command of this form, as the parser reads them.
-fn values_of(alloc: Global, form: command::Form, line: &Line<'_>) -> Result<Command, Memory>
+fn values_of(alloc: Global, form: command::CommandForm, line: &Line<'_>) -> Result<Command, Memory>
     requires { (c : plain.Command) × AreOf form (line_view line.now) c }
     ensures { IfOk result (λ found. AreOf form (line_view line.now) (command_view found)) }
 {
     match form {
-        command::Form::DecidePlain => {
+        command::CommandForm::DecidePlain => {
             let words = parser_words(alloc, "decide", line)?;
             decide_of(alloc, words.as_slice())
         }
-        command::Form::Run => {
+        command::CommandForm::Run => {
             let words = parser_words(alloc, "run", line)?;
             run_of(alloc, words.as_slice())
         }
-        command::Form::Show => {
+        command::CommandForm::Show => {
             let words = parser_words(alloc, "show", line)?;
             show_of(alloc, words.as_slice())
         }

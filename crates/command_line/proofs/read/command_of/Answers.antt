@@ -1,7 +1,7 @@
 use Rattle.std.proofs.Common.{◌∙◌, ◌-◌, ◌∷◌, List, ap, arith, drop, length, subst, sym, take, ℕ}
 use Rattle.command_line.specs.Parser.{IsOfForm}
 use Rattle.command_line.specs.View.{command_view, line_view}
-use Rattle.command_line.specs.declared.command.Form.{Form}
+use Rattle.command_line.specs.declared.command.CommandForm.{CommandForm}
 use Rattle.command_line.proofs.Commands.{command-known, usage-formless, usage-unread}
 use Rattle.command_line.proofs.Loops.{cut_first}
 use Rattle.command_line.proofs.read.command_of.Goals as goal
@@ -18,7 +18,7 @@ returns-in_default-form_of-clause-none c =
     let line = line_view c.in-Some.line in
     let read = rw c.in-Some.is at c.in_ok-line.ensures.some in
     usage-formless words (take (length words - 1) (drop 1 words)) c.name-item.result line (cut_first words c.name-item.result (omega arith) c.name-item.is) read.1
-    (subst (λ (n : List ℕ). (f : Form) → IsOfForm n line f → ⊥) c.bytes.ensures (rw c.in_default-form_of.is at c.form_of.ensures.none))
+    (subst (λ (n : List ℕ). (f : CommandForm) → IsOfForm n line f → ⊥) c.bytes.ensures (rw c.in_default-form_of.is at c.form_of.ensures.none))
 
 pub returns-clause-some : goal.returns-clause-some
 returns-clause-some c =

@@ -1,6 +1,6 @@
 use Rattle.command_line.specs.View.{line_view}
 use Rattle.std.proofs.Common.{map, string_bytes}
-use Rattle.command_line.specs.declared.command.Form.TheVariants as form
+use Rattle.command_line.specs.declared.command.CommandForm.TheVariants as form
 use Rattle.command_line.proofs.Steps.{made-words, read-values}
 use Rattle.command_line.proofs.read.values_of.Goals as goal
 
