@@ -6,8 +6,8 @@ use Rattle.align_base.specs.declared.status.Status.{Status}
 use Rattle.align_base.specs.declared.status.Status.TheVariants as status
 use Rattle.align_cli.specs.Answers.{Finishes, RefusesCommand, Tells, TellsOf}
 use Rattle.command_line.specs.Command.{Command, IsCommand, OfCommand}
-use Rattle.align_cli.specs.Commands.{Accepts, Owes, Rejects, finals}
-use Rattle.align_cli.specs.Files.{File, HasBadFile, IsGoodFile, ReadsFile, files_of}
+use Rattle.align_cli.specs.Commands.{Accepts, Owes, Rejects, files_of, finals}
+use Rattle.align_cli.specs.Files.{File, HasBadFile, IsGoodFile, ReadsFile}
 use Rattle.align_cli.specs.Statuses.{IsOneOf, interruptions}
 use Rattle.align_cli.proofs.Owing.{accepts-differs, accepts-good, bad-differs, good-differs, owes-accepts, owes-differs, rejects-differs, says-final}
 use Rattle.command_line.proofs.Commands.{command-once}

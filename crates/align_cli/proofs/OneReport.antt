@@ -17,7 +17,8 @@ use Rattle.align_report.specs.PlainReport.{ReportsDifferent, ReportsEquivalent, 
 use Rattle.align_report.specs.RunReport.{IsRunReport}
 use Rattle.command_line.specs.Command.{Command, DecidePlain, FunctionArguments, RunArguments, Show}
 use Rattle.command_line.specs.Command.{Run as ToRun}
-use Rattle.align_cli.specs.Commands.{AreFunctions, OfPlain, Says}
+use Rattle.align_cli.specs.Decide.{AreFunctions, OfPlain}
+use Rattle.align_cli.specs.Commands.{Says}
 use Rattle.align_cli.proofs.Owing.{same_admission, same_functions, same_held, same_tests}
 
 -- of functions that are equivalent

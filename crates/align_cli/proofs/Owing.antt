@@ -19,8 +19,10 @@ use Rattle.att_reader.proofs.TextLaws as laws
 use Rattle.tests_text.proofs.TestFaults.{text-differs as tests-differ, text-once as tests-once}
 use Rattle.command_line.specs.Command.{Command, DecidePlain, FunctionArguments, RunArguments, Show}
 use Rattle.command_line.specs.Command.{Run as ToRun}
-use Rattle.align_cli.specs.Commands.{Accepts, AreFunctions, HoldsAdmission, HoldsFunction, HoldsTests, OfPlain, Owes, RefusesContents, RefusesEither, Rejects, Says, TellsFunctions, TellsRunFiles, finals}
-use Rattle.align_cli.specs.Files.{AdmissionText, Content, FunctionText, TestsText, File, IsBadFile, IsGoodFile, IsText, ReadsFile, RefusesFile, RefusesText, files_of, function_file, limit_of}
+use Rattle.align_cli.specs.Commands.{Accepts, Owes, RefusesContents, Rejects, Says, files_of, finals}
+use Rattle.align_cli.specs.Decide.{AreFunctions, OfPlain, RefusesEither, TellsFunctions}
+use Rattle.align_cli.specs.Files.{AdmissionText, Content, File, FunctionText, HoldsAdmission, HoldsFunction, HoldsTests, IsBadFile, IsGoodFile, IsText, ReadsFile, RefusesFile, RefusesText, TestsText, function_file, limit_of}
+use Rattle.align_cli.specs.Run.{TellsRunFiles}
 use Rattle.align_cli.specs.Statuses.{IsOneOf, interruptions}
 use Rattle.plain_functions.specs.Verdict.{ReturnApart, ReturnTheSame}
 use Rattle.plain_functions.proofs.Verdicts.{differently-same, equivalent-apart}

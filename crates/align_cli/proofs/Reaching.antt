@@ -28,8 +28,9 @@ use Rattle.att_reader.specs.FunctionText.{IsFunctionText, IsFunctionRefusal}
 use Rattle.att_reader.proofs.ClosedTexts.{function-few}
 use Rattle.align_cli.specs.Answers.{TellsOf}
 use Rattle.command_line.specs.Command.{Command, DecidePlain, FunctionArguments, Run, RunArguments}
-use Rattle.align_cli.specs.Commands.{AreFunctions, HoldsAdmission, HoldsFunction, HoldsTests, OfPlain, RefusesEither}
-use Rattle.align_cli.specs.Files.{AdmissionText, File, FunctionText, HoldsText, IsReached, ReadsFile, RefusesFile, RefusesText, TestsText, admission_file, file_word, files_of, function_file, limit_of, tests_file, text_limit}
+use Rattle.align_cli.specs.Decide.{AreFunctions, OfPlain, RefusesEither}
+use Rattle.align_cli.specs.Files.{AdmissionText, File, FunctionText, HoldsAdmission, HoldsFunction, HoldsTests, HoldsText, IsReached, ReadsFile, RefusesFile, RefusesText, TestsText, admission_file, file_word, function_file, limit_of, tests_file, text_limit}
+use Rattle.align_cli.specs.Commands.{files_of}
 use Rattle.align_cli.specs.Inside.{Compares, IsReadAdmission, IsReadFunction, IsReadTests, StopsCommand, StopsFile, StopsTake, StopsWith}
 use Rattle.align_report.specs.PlainReport.{ReportsDifferent, ReportsEquivalent, side_name}
 use Rattle.align_report.specs.Refusals.{admission_refusal, line_refusal, lone_file, tests_refusal}

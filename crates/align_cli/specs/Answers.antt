@@ -1,5 +1,5 @@
--- What is true where the program ends with each status, of every command. A command adds its own definitions to Command,
--- Files and Commands, and none here.
+-- What is true where the program ends with each status, of every command. A command has a file of definitions of its own,
+-- and rows in Commands; none here.
 use Rattle.std.specs.Prelude.{◌≡◌, ◌⊎◌, ℕ, ◌≤◌, List, length}
 use Rattle.std.specs.List.{AllByRecursion}
 use Rattle.align_base.specs.Causes.{count_after}
@@ -9,8 +9,8 @@ use Rattle.align_base.specs.declared.shelf.Call.TheVariants.{Take}
 use Rattle.align_base.specs.declared.status.Status.{Status}
 use Rattle.align_base.specs.declared.status.Status.TheVariants as status
 use Rattle.command_line.specs.Command.{Command, IsUsageError, OfCommand}
-use Rattle.align_cli.specs.Commands.{RefusesContents, Says}
-use Rattle.align_cli.specs.Files.{File, IsReached, ReadsFile, RefusesFile, files_of}
+use Rattle.align_cli.specs.Commands.{RefusesContents, Says, files_of}
+use Rattle.align_cli.specs.Files.{File, IsReached, ReadsFile, RefusesFile}
 use Rattle.align_report.specs.Usage.{usage_text}
 
 -- The command was carried out: each of its files was taken once and read, and the report says what is so.

@@ -1,8 +1,7 @@
--- The files that a command names, in the order in which they are taken, and what each has to be.
+-- The files that commands name, by their kinds, and what each has to be.
 use Rattle.std.specs.Prelude.{◌≡◌, ◌⊎◌, ℕ, ◌+◌, ◌<◌, ◌≤◌, List, [], ◌∷◌, ◌++◌, length, codes, Option, Some}
 use Rattle.std.specs.List.{AllByRecursion}
 use Rattle.align_base.specs.Shelf.{Holding, Holds, HoldsMore}
-use Rattle.insn_ops.specs.declared.side.Side.TheVariants.{Left, Right}
 use Rattle.insn_table.specs.declared.insn.Function.{Function}
 use Rattle.admission.specs.declared.admission.Admission.{Admission}
 use Rattle.admission_text.specs.Entries.{IsAdmissionText}
@@ -14,9 +13,8 @@ use Rattle.tests_text.specs.declared.refusal.TestRefusal.{TestRefusal}
 use Rattle.tests_text.specs.declared.test.Tests.{Tests}
 use Rattle.text_lines.specs.declared.refusal.ReadRefusal.{ReadRefusal}
 use Rattle.att_reader.specs.FunctionText.{IsFunctionText, IsFunctionRefusal}
-use Rattle.command_line.specs.Command.{Command, DecidePlain, FunctionArguments, Run, Show}
-use Rattle.align_report.specs.PlainReport.{side_name}
-use Rattle.align_report.specs.Refusals.{admission_refusal, large_refusal, line_refusal, lone_file, tests_refusal}
+use Rattle.command_line.specs.Command.{FunctionArguments}
+use Rattle.align_report.specs.Refusals.{admission_refusal, large_refusal, line_refusal, tests_refusal}
 
 -- The kinds of file. Each has a row in the four definitions below: its limit, what its text has to be, what report refuses
 -- one that isn't, and what reports call it.
@@ -41,12 +39,6 @@ admission_file name = record { name = name; content = AdmissionText }
 -- the file of tests
 abbrev pub tests_file : List ℕ → File
 tests_file name = record { name = name; content = TestsText }
-
--- the files of a command, in order
-abbrev pub files_of : Command → List File
-files_of (DecidePlain left right) = function_file (side_name Left) left ∷ function_file (side_name Right) right ∷ []
-files_of (Run run) = function_file lone_file run.function ∷ admission_file run.admission ∷ tests_file run.tests ∷ []
-files_of (Show function) = function_file lone_file function ∷ []
 
 -- the most bytes of a text that is read: 16 MiB
 abbrev pub text_limit : ℕ
@@ -86,6 +78,18 @@ pub record HoldsText (IsSo : List ℕ → Type 0) (limit : ℕ) (told : Option H
   pub held : Holds told name text
   pub small : length text ≤ limit
   pub so : IsSo text
+
+-- the file holds a text that is this function
+abbrev pub HoldsFunction : Option Holding → FunctionArguments → Function → Type 0
+HoldsFunction told arguments f = HoldsText (λ text. IsFunctionText text arguments.name f) text_limit told arguments.file
+
+-- the file holds a text that is this admission
+abbrev pub HoldsAdmission : Option Holding → List ℕ → Admission → Type 0
+HoldsAdmission told name a = HoldsText (λ text. IsAdmissionText text a) text_limit told name
+
+-- the file holds a text that is these tests
+abbrev pub HoldsTests : Option Holding → List ℕ → Tests → Type 0
+HoldsTests told name tests = HoldsText (λ text. IsTestsText text tests) text_limit told name
 
 -- the file holds a text within its limit that is what it has to be
 abbrev pub ReadsFile : Option Holding → File → Type 0

@@ -12,8 +12,8 @@ use Rattle.admission.specs.declared.admission.Admission.{Admission}
 use Rattle.tests_text.specs.declared.test.Tests.{Tests}
 use Rattle.align_cli.specs.Answers.{FailsAtFile, RefusesCommand}
 use Rattle.command_line.specs.Command.{Command, FunctionArguments, OfCommand}
-use Rattle.align_cli.specs.Commands.{HoldsAdmission, HoldsFunction, HoldsTests, OfPlain}
-use Rattle.align_cli.specs.Files.{File, RefusesFile}
+use Rattle.align_cli.specs.Files.{File, HoldsAdmission, HoldsFunction, HoldsTests, RefusesFile}
+use Rattle.align_cli.specs.Decide.{OfPlain}
 use Rattle.align_report.specs.Refusals.{large_refusal}
 use Rattle.align_report.specs.PlainReport.{ReportsDifferent, ReportsEquivalent}
 use Rattle.align_cli.specs.declared.answer.Interruption.{Interruption}

@@ -1,6 +1,9 @@
 pub mod Answers
 pub mod Commands
+pub mod Decide
 pub mod Files
 pub mod Inside
 pub mod Statuses
 pub mod View
+pub mod Run
+pub mod Show

@@ -5,8 +5,8 @@ ghost use Rattle.align_base.specs.Shelf.{NoneFailed};
 ghost use Rattle.insn_table.specs.Closed.{IsClosed};
 ghost use Rattle.plain_functions.specs.Plain.{IsPlain};
 ghost use Rattle.align_cli.specs.Answers.{TakesSome, TellsOf};
-ghost use Rattle.align_cli.specs.Commands.{RefusesEither, RefusesUnplain};
-ghost use Rattle.align_cli.specs.Files.{files_of};
+ghost use Rattle.align_cli.specs.Decide.{RefusesEither, RefusesUnplain};
+ghost use Rattle.align_cli.specs.Commands.{files_of};
 ghost use Rattle.align_cli.specs.Inside.{Compares, StopsCommand, StopsWith};
 ghost use Rattle.align_cli.specs.View.{decide_view};
 

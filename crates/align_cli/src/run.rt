@@ -2,7 +2,7 @@
 ghost use Rattle.std.specs.Prelude.{◌≡◌, IfErr, IfOk, OnOk};
 ghost use Rattle.align_base.specs.Shelf.{NoneFailed};
 ghost use Rattle.align_cli.specs.Answers.{TakesSome, TellsOf};
-ghost use Rattle.align_cli.specs.Files.{files_of};
+ghost use Rattle.align_cli.specs.Commands.{files_of};
 ghost use Rattle.align_cli.specs.Inside.{StopsCommand};
 ghost use Rattle.align_cli.specs.View.{run_command};
 
