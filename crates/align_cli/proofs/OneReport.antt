@@ -1,5 +1,5 @@
 -- A command whose shelf tells has one report at most with each status.
-use Rattle.std.proofs.Common.{◌≡◌, inl, inr, ℕ, ◌+◌, ◌*◌, ◌↔◌, IsTrue, Bool, true, false, List, [], ◌∷◌, ◌++◌, length, max, Option, Some, refl, sym, ◌∙◌, ap, subst}
+use Rattle.std.proofs.Common.{◌≡◌, ℕ, ◌+◌, ◌↔◌, IsTrue, Bool, true, false, List, [], ◌∷◌, ◌++◌, length, Option, Some, refl, sym, ◌∙◌, ap, subst}
 use Rattle.align_base.specs.Shelf.{Holding}
 use Rattle.align_base.specs.declared.status.Status.{Status}
 use Rattle.align_base.specs.declared.status.Status.TheVariants as status
@@ -15,9 +15,9 @@ use Rattle.plain_functions.specs.Verdict.{ReturnDifferently}
 use Rattle.align_report.proofs.OneReport.{one_text}
 use Rattle.align_report.specs.PlainReport.{ReportsDifferent, ReportsEquivalent, different_report, equivalent_report}
 use Rattle.align_report.specs.RunReport.{IsRunReport}
-use Rattle.command_line.specs.Command.{Command, DecidePlain, FunctionArguments, RunArguments, Show}
+use Rattle.command_line.specs.Command.{Command, DecidePlain, Show}
 use Rattle.command_line.specs.Command.{Run as ToRun}
-use Rattle.align_cli.specs.Decide.{AreFunctions, OfPlain}
+use Rattle.align_cli.specs.Decide.{OfPlain}
 use Rattle.align_cli.specs.Commands.{Says}
 use Rattle.align_cli.proofs.Owing.{same_admission, same_functions, same_held, same_tests}
 

@@ -1,6 +1,6 @@
 -- A file is not both good and bad, and a text is one function at most: so files that are equivalent are not reported
 -- different, and files that differ are not reported equivalent.
-use Rattle.std.proofs.Common.{◌≡◌, ◌⊎◌, inl, inr, ⊎_elim, ℕ, List, [], ◌∷◌, ◌++◌, length, Option, Some, refl, sym, ◌∙◌, ap, subst, arith}
+use Rattle.std.proofs.Common.{◌≡◌, ◌⊎◌, inl, inr, ⊎_elim, ℕ, List, [], ◌∷◌, ◌++◌, length, Option, Some, refl, ap, subst, arith}
 use Rattle.std.specs.List.{AllByRecursion}
 use Rattle.align_base.specs.Shelf.{Holding, Holds, HoldsMore}
 use Rattle.insn_ops.specs.declared.side.Side.TheVariants.{Left, Right}

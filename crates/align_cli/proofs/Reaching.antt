@@ -1,5 +1,5 @@
 -- The files of a command, one after another: what each take says of the command.
-use Rattle.std.proofs.Common.{◌≡◌, ◌⊎◌, inl, inr, ℕ, ◌+◌, ◌<◌, ◌≤◌, List, [], ◌∷◌, ◌++◌, append_assoc, length, Option, string_bytes, Result, Ok, Err, IfErr, IfOk, IsErrAnd, refl, sym, ◌∙◌, ap, subst, arith}
+use Rattle.std.proofs.Common.{◌≡◌, ◌⊎◌, inl, inr, ℕ, ◌+◌, ◌≤◌, List, [], ◌∷◌, ◌++◌, append_assoc, length, Option, string_bytes, Result, Ok, Err, IfErr, IfOk, IsErrAnd, refl, sym, ◌∙◌, ap, subst, arith}
 use Rattle.std.specs.List.{AllByRecursion}
 use Rattle.std.proofs.lemmas.List.{length-append}
 use Rattle.outcomes.proofs.Answering.{unless-found}
@@ -11,7 +11,6 @@ use Rattle.align_base.specs.declared.status.Status.TheVariants as status
 use Rattle.insn_table.specs.Closed.{IsClosed}
 use Rattle.insn_table.specs.declared.insn.Function.{Function}
 use Rattle.insn_table.specs.declared.insn.Insn.{Insn}
-use Rattle.text_lines.specs.declared.refusal.ReadKind.{ReadKind}
 use Rattle.text_lines.specs.declared.refusal.ReadKind.TheVariants as kinds
 use Rattle.text_lines.specs.declared.refusal.ReadRefusal.{ReadRefusal}
 use Rattle.text_lines.specs.Kinds.{out_of_memory}

@@ -1,5 +1,5 @@
 -- The files that commands name, by their kinds, and what each has to be.
-use Rattle.std.specs.Prelude.{◌≡◌, ◌⊎◌, ℕ, ◌+◌, ◌<◌, ◌≤◌, List, [], ◌∷◌, ◌++◌, length, codes, Option, Some}
+use Rattle.std.specs.Prelude.{◌≡◌, ◌⊎◌, ℕ, ◌+◌, ◌<◌, ◌≤◌, List, ◌∷◌, ◌++◌, length, codes, Option, Some}
 use Rattle.std.specs.List.{AllByRecursion}
 use Rattle.align_base.specs.Shelf.{Holding, Holds, HoldsMore}
 use Rattle.insn_table.specs.declared.insn.Function.{Function}
