@@ -40,7 +40,8 @@ given Memory = Memory
 
 -- the refusal of a text: its first fault, else that no line is `live`
 pub data IsAdmissionRefusal (text : List ℕ) (e : AdmitRefusal) : Type 0 where
-  Faulty : (first : AdmitRefusal) → IsFirst IsLineFault (Precedes fault_line rank) [] (lines_of text) first → e ≡ given first → IsAdmissionRefusal text e
+  Faulty : (first : AdmitRefusal) → IsFirst IsLineFault (Precedes fault_line rank) [] (lines_of text) first
+      → e ≡ given first → IsAdmissionRefusal text e
   Dead : ((other : AdmitRefusal) → HasFault IsLineFault [] (lines_of text) other → ⊥)
       → has_line (codes "live") (lines_of text) ≡ false → e ≡ NoLive
       → IsAdmissionRefusal text e

@@ -58,7 +58,8 @@ IsText TestsText text = (tests : Tests) × IsTestsText text tests
 
 -- the text isn't what it has to be, and this report refuses it
 abbrev pub RefusesText : Content → List ℕ → List ℕ → Type 0
-RefusesText (FunctionText called name) text report = (e : ReadRefusal) × IsFunctionRefusal text name e × (report ≡ line_refusal called e.line e.kind)
+RefusesText (FunctionText called name) text report =
+    (e : ReadRefusal) × IsFunctionRefusal text name e × (report ≡ line_refusal called e.line e.kind)
 RefusesText AdmissionText text report = (e : AdmitRefusal) × admissions.IsAdmissionRefusal text e × (report ≡ admission_refusal e)
 RefusesText TestsText text report = (e : TestRefusal) × tests.IsTestsRefusal text e × (report ≡ tests_refusal e)
 

@@ -36,19 +36,22 @@ IsReadTests told name tests = HoldsTests told name tests
 -- why a take gave no text, by what the file is called and its limit: it has more bytes, the take failed, or out of memory
 abbrev pub StopsTake : List ℕ → List ℕ → ℕ → ShelfAccount → ShelfAccount → Stop → Type 0
 StopsTake name called limit before after (stop.Refused report) =
-    NoneFailed before after × HoldsMore before.holding name limit × (limit < after.seen) × (string_bytes report ≡ large_refusal called (limit + 1))
+    NoneFailed before after × HoldsMore before.holding name limit × (limit < after.seen)
+    × (string_bytes report ≡ large_refusal called (limit + 1))
 StopsTake name called limit before after stop.Shelf = CallFailed (Take name) before after
 StopsTake name called limit before after stop.Memory = NoneFailed before after
 
 -- why a file was not read: it was refused, its take failed, or out of memory
 abbrev pub StopsFile : File → ShelfAccount → ShelfAccount → Stop → Type 0
-StopsFile file before after (stop.Refused report) = NoneFailed before after × RefusesFile before.holding after.seen file (string_bytes report)
+StopsFile file before after (stop.Refused report) =
+    NoneFailed before after × RefusesFile before.holding after.seen file (string_bytes report)
 StopsFile file before after stop.Shelf = CallFailed (Take file.name) before after
 StopsFile file before after stop.Memory = NoneFailed before after
 
 -- why a command was not carried out: it was refused, a take failed, or out of memory
 abbrev pub StopsCommand : Command → ShelfAccount → ShelfAccount → Stop → Type 0
-StopsCommand command before after (stop.Refused report) = NoneFailed before after × RefusesCommand command before after (string_bytes report)
+StopsCommand command before after (stop.Refused report) =
+    NoneFailed before after × RefusesCommand command before after (string_bytes report)
 StopsCommand command before after stop.Shelf = FailsAtFile command before after
 StopsCommand command before after stop.Memory = NoneFailed before after
 

@@ -53,7 +53,8 @@ pub fn function_in<F: Shelf>(
     ensures taken { (F.account shelf.new).calls ≡ count_after (F.account shelf.old).calls 1 }
     ensures ok { IfOk result (IsReadFunction (F.account shelf.old).holding (function_view arguments.now)) }
     ensures none_failed { OnOk result (NoneFailed (F.account shelf.old) (F.account shelf.new)) }
-    ensures err { IfErr result (StopsFile (function_file called.now (function_view arguments.now)) (F.account shelf.old) (F.account shelf.new)) }
+    ensures err { IfErr result (StopsFile (function_file called.now (function_view arguments.now))
+        (F.account shelf.old) (F.account shelf.new)) }
 {
     let text = text_in(alloc, shelf, &arguments.file, called, TEXT_LIMIT)?;
     match read_function(alloc, text.as_slice(), &arguments.name) {
