@@ -9,7 +9,6 @@ use Rattle.memory_spans.specs.declared.region.Region.{Region}
 use Rattle.memory_spans.specs.declared.span.Span.{Span}
 use Rattle.memory_spans.specs.Spans.{AreOrdered, byte_of, is_spanned}
 use Rattle.machine.specs.Kept.{IsKept, pure_of}
-use Rattle.machine.specs.Machine.{Machine}
 use Rattle.memory_spans.specs.Memory.{offset_from}
 use Rattle.machine.specs.Start.{kept_start}
 use Rattle.admission.specs.declared.admission.Admission.{Admission}
