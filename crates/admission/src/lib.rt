@@ -15,10 +15,12 @@ mod admission;
 mod expr;
 mod meaning;
 mod pair;
+mod refusal;
 
 pub use admission::{Admission, Need, RegionLine, Rel};
 pub use expr::{Expr, Term};
 pub use insn_ops::Output;
 pub use memory_spans::Region;
 pub use pair::Pair;
+pub use refusal::AdmitRefusal;
 pub use sqlite_items::Items;

@@ -4,8 +4,8 @@ use Rattle.outcomes.specs.Answering.{Gives}
 use Rattle.outcomes.specs.Firsts.{◌>>=◌}
 use Rattle.outcomes.proofs.Answering.{unless-map}
 use Rattle.admission_text.specs.declared.entry.Draft.{Draft}
-use Rattle.admission_text.specs.declared.refusal.AdmitRefusal.{AdmitRefusal}
-use Rattle.admission_text.specs.declared.refusal.AdmitRefusal.TheVariants.{Memory}
+use Rattle.admission.specs.declared.refusal.AdmitRefusal.{AdmitRefusal}
+use Rattle.admission.specs.declared.refusal.AdmitRefusal.TheVariants.{Memory}
 use Rattle.text_parts.specs.Cuts.{parts, first_part, parts_left}
 use Rattle.admission_text.specs.ReadingLines.{behind_line, behind_lines, next_line, no_draft}
 use Rattle.text_parts.proofs.WordTexts.{parts-first}

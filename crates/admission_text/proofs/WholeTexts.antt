@@ -9,8 +9,8 @@ use Rattle.admission.specs.declared.admission.Admission.{Admission}
 use Rattle.admission.specs.WellFormed.{IsWellFormed}
 use Rattle.admission_text.specs.declared.entry.Draft.{Draft}
 use Rattle.admission_text.specs.declared.entry.Entry.{Entry}
-use Rattle.admission_text.specs.declared.refusal.AdmitRefusal.{AdmitRefusal}
-use Rattle.admission_text.specs.declared.refusal.AdmitRefusal.TheVariants.{BadLine, TooMany, NoLive, Memory}
+use Rattle.admission.specs.declared.refusal.AdmitRefusal.{AdmitRefusal}
+use Rattle.admission.specs.declared.refusal.AdmitRefusal.TheVariants.{BadLine, TooMany, NoLive, Memory}
 use Rattle.text_parts.specs.Cuts.{parts}
 use Rattle.admission_text.specs.Grammar.{IsEntry, Line, is_skipped, lines_from, lines_of}
 use Rattle.admission_text.specs.Entries.{AreEntries, IsAdmissionText, goes_over, with_entries}

@@ -5,8 +5,8 @@ use Rattle.admission.specs.declared.admission.Admission.{Admission}
 use Rattle.admission_text.specs.declared.entry.Draft.{Draft}
 use Rattle.admission_text.specs.declared.entry.Entry.{Entry}
 use Rattle.admission_text.specs.declared.entry.Entry.TheVariants.{Header, Region, Require, Apart, Scratch, Stack, Live}
-use Rattle.admission_text.specs.declared.refusal.AdmitRefusal.{AdmitRefusal}
-use Rattle.admission_text.specs.declared.refusal.AdmitRefusal.TheVariants.{BadLine, TooMany, NoLive}
+use Rattle.admission.specs.declared.refusal.AdmitRefusal.{AdmitRefusal}
+use Rattle.admission.specs.declared.refusal.AdmitRefusal.TheVariants.{BadLine, TooMany, NoLive}
 use Rattle.text_parts.specs.Cuts.{parts}
 use Rattle.admission_text.specs.Grammar.{is_skipped}
 use Rattle.admission_text.specs.Entries.{no_admission, with_entry}

@@ -2,8 +2,8 @@
 use Rattle.std.specs.Prelude.{◌≡◌, ◌⊎◌, ℕ, ◌-◌, ◌^◌, min, true, false, List, [], codes}
 use Rattle.outcomes.specs.Firsts.{HasFault, IsFirst, Precedes}
 use Rattle.admission_text.specs.declared.entry.Entry.{Entry}
-use Rattle.admission_text.specs.declared.refusal.AdmitRefusal.{AdmitRefusal}
-use Rattle.admission_text.specs.declared.refusal.AdmitRefusal.TheVariants.{BadLine, TooMany, NoLive, Memory}
+use Rattle.admission.specs.declared.refusal.AdmitRefusal.{AdmitRefusal}
+use Rattle.admission.specs.declared.refusal.AdmitRefusal.TheVariants.{BadLine, TooMany, NoLive, Memory}
 use Rattle.admission_text.specs.Grammar.{IsEntry, Line, has_line, lines_of}
 use Rattle.admission_text.specs.Entries.{goes_over}
 

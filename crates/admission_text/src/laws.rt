@@ -3,7 +3,7 @@ ghost use Rattle.std.specs.Prelude.{◌≡◌, ◌⊎◌, ℕ, List};
 ghost use Rattle.admission.specs.declared.admission.Admission.{Admission};
 ghost use Rattle.admission_text.specs.Entries.{IsAdmissionText};
 ghost use Rattle.admission_text.specs.Refusals.{IsAdmissionRefusal};
-ghost use Rattle.admission_text.specs.declared.refusal.AdmitRefusal.{AdmitRefusal};
+ghost use Rattle.admission.specs.declared.refusal.AdmitRefusal.{AdmitRefusal};
 
 /// A law: a text spells exactly one admission or is refused in exactly one way, and not both. No text is
 /// refused because memory was not found.

@@ -14,9 +14,8 @@ mod expr;
 mod laws;
 mod line;
 mod read;
-mod refusal;
 mod register;
 
+pub use admission::AdmitRefusal;
 pub use laws::admissions_have_one_meaning;
 pub use read::read_admission;
-pub use refusal::AdmitRefusal;

@@ -6,14 +6,13 @@ ghost use Rattle.admission_text.specs.Grammar.{is_skipped};
 ghost use Rattle.admission_text.specs.ReadingLines as lines;
 ghost use Rattle.admission_text.specs.Refusals.{IsAdmissionRefusal};
 ghost use Rattle.admission_text.specs.Entries.{IsAdmissionText};
-ghost use Rattle.admission_text.specs.declared.refusal.AdmitRefusal.{AdmitRefusal};
+ghost use Rattle.admission.specs.declared.refusal.AdmitRefusal.{AdmitRefusal};
 ghost use Rattle.admission.specs.declared.admission.Admission.{Admission};
 ghost use Rattle.admission.specs.WellFormed.{IsWellFormed};
 
 use crate::entry::{Draft, Entry};
 use crate::line::entry_of;
-use crate::refusal::AdmitRefusal;
-use admission::Admission;
+use admission::{Admission, AdmitRefusal};
 use std::alloc::Global;
 use text_parts::first_part;
 

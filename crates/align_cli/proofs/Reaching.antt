@@ -16,8 +16,8 @@ use Rattle.text_lines.specs.declared.refusal.ReadRefusal.{ReadRefusal}
 use Rattle.text_lines.specs.Kinds.{out_of_memory}
 use Rattle.admission.specs.declared.admission.Admission.{Admission}
 use Rattle.admission_text.specs.Refusals as admissions
-use Rattle.admission_text.specs.declared.refusal.AdmitRefusal.{AdmitRefusal}
-use Rattle.admission_text.specs.declared.refusal.AdmitRefusal.TheVariants as admits
+use Rattle.admission.specs.declared.refusal.AdmitRefusal.{AdmitRefusal}
+use Rattle.admission.specs.declared.refusal.AdmitRefusal.TheVariants as admits
 use Rattle.align_report.specs.RunReport.{IsRunReport}
 use Rattle.tests_text.specs.TestFiles as tests
 use Rattle.tests_text.specs.declared.refusal.TestRefusal.{TestRefusal}

@@ -6,7 +6,7 @@ use Rattle.insn_table.specs.declared.insn.Function.{Function}
 use Rattle.admission.specs.declared.admission.Admission.{Admission}
 use Rattle.admission_text.specs.Entries.{IsAdmissionText}
 use Rattle.admission_text.specs.Refusals as admissions
-use Rattle.admission_text.specs.declared.refusal.AdmitRefusal.{AdmitRefusal}
+use Rattle.admission.specs.declared.refusal.AdmitRefusal.{AdmitRefusal}
 use Rattle.tests_text.specs.TestFiles as tests
 use Rattle.tests_text.specs.TestFiles.{IsTestsText}
 use Rattle.tests_text.specs.declared.refusal.TestRefusal.{TestRefusal}

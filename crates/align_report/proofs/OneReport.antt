@@ -1,5 +1,5 @@
 -- There is one report at most.
-use Rattle.std.proofs.Common.{◌≡◌, inl, inr, ℕ, ◌+◌, ◌^◌, ◌<◌, ◌≤◌, List, [], ◌∷◌, ◌++◌, Err, refl, sym, ◌∙◌, ap, subst, arith}
+use Rattle.std.proofs.Common.{◌≡◌, inl, inr, ℕ, ◌+◌, ◌^◌, ◌<◌, ◌≤◌, List, [], ◌∷◌, ◌++◌, refl, sym, ◌∙◌, ap, subst, arith}
 use Rattle.insn_ops.specs.declared.output.Output.{Output}
 use Rattle.insn_table.specs.declared.insn.Function.{Function}
 use Rattle.runs.specs.Run.{Run}
@@ -7,11 +7,8 @@ use Rattle.runs.specs.declared.ends.RunEnd.TheVariants.{Returned, Faulted, Unset
 use Rattle.machine.specs.Machine.{Machine}
 use Rattle.admission.specs.declared.admission.Admission.{Admission}
 use Rattle.tests_text.specs.declared.test.Test.{Test}
-use Rattle.test_states.specs.declared.refusal.LoadRefusal.{LoadRefusal}
-use Rattle.test_states.specs.declared.refusal.LoadRefusal.TheVariants.{ByteOutside, Memory, NotAdmitted, RegionsLarge}
-use Rattle.test_states.specs.Loads.{IsRefused}
-use Rattle.test_states.specs.Starts.{IsLoadable, start_of}
-use Rattle.test_states.proofs.Loading.{gives_refusal, gives_state}
+use Rattle.test_states.specs.Starts.{start_of}
+use Rattle.test_states.proofs.Loading.{one_refusal, refused_or_not}
 use Rattle.align_report.specs.Changes.{ArePieces, IsPiece, piece_lines}
 use Rattle.align_report.specs.Outputs.{output_lines}
 use Rattle.align_report.specs.RunReport.{AreDetails, AreTestReports, IsTestReport, Ran, Refused, end_name, refusal_name, test_line, test_run}
@@ -49,18 +46,6 @@ one_details live start (s, Returned n) x y are be =
 one_details live start (s, Faulted n) x y are be = are ∙ sym be
 one_details live start (s, Unset n) x y are be = are ∙ sym be
 one_details live start (s, Running) x y are be = are ∙ sym be
-
-one_refusal : (a : Admission) (t : Test) (e d : LoadRefusal) → IsRefused a t e → IsRefused a t d → d ≡ e
-one_refusal a t NotAdmitted d h k = gives_refusal a t (Err NotAdmitted) h d k
-one_refusal a t RegionsLarge d h k = gives_refusal a t (Err RegionsLarge) h d k
-one_refusal a t (ByteOutside at) d h k = gives_refusal a t (Err (ByteOutside at)) h d k
-one_refusal a t Memory d h k = absurd h
-
-refused_or_not : (a : Admission) (t : Test) (e : LoadRefusal) → IsRefused a t e → IsLoadable a t → ⊥
-refused_or_not a t NotAdmitted h l = gives_state a t (Err NotAdmitted) h l
-refused_or_not a t RegionsLarge h l = gives_state a t (Err RegionsLarge) h l
-refused_or_not a t (ByteOutside at) h l = gives_state a t (Err (ByteOutside at)) h l
-refused_or_not a t Memory h l = h
 
 one_test : (f : Function) (a : Admission) (steps k : ℕ) (t : Test) (x y : List ℕ) → IsTestReport f a steps k t x → IsTestReport f a steps k t y → x ≡ y
 one_test f a steps k t x y (Refused e h is) (Refused d g be) = is ∙ ap (λ r. test_line k (refusal_name r)) (sym (one_refusal a t e d h g)) ∙ sym be

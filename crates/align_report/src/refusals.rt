@@ -2,7 +2,7 @@
 ghost use Rattle.std.specs.Prelude.{◌≡◌, string_bytes, IfOk};
 ghost use Rattle.align_report.specs.Refusals.{admission_refusal, kind_name, large_refusal, line_refusal, lone_file, named_refusal, test_named, tests_named, tests_refusal, unplain_refusal};
 
-use admission_text::AdmitRefusal;
+use admission::AdmitRefusal;
 use std::alloc::{AllocError, Global};
 use tests_text::TestRefusal;
 use text_lines::{ReadKind, ReadRefusal};

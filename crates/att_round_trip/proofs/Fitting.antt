@@ -2,12 +2,11 @@
 use Rattle.std.proofs.Common.{◌≡◌, ℕ, zero, suc, ◌+◌, ◌-◌, ◌==◌, Bool, true, false, ◌&&◌, ◌||◌, inl, inr, ⊎_elim, max, cond, nat_le, List, [], ◌∷◌, ◌++◌, length, replicate, Option, Some, None, Ok, Err, slice_get, refl, sym, ◌∙◌, ap, subst}
 use Rattle.std.specs.Cmp.Lexicographic.{pointwise}
 use Rattle.std.specs.List.{AllByRecursion, AllZip, count_by, find, list_any}
-use Rattle.std.proofs.lemmas.Bool.{and_from}
+use Rattle.std.proofs.lemmas.Bool.{and_from, and_parts, or_cases}
 use Rattle.std.proofs.lemmas.Bool.Decides.{Decides-eqb}
 use Rattle.std.proofs.lemmas.Option.{same_Some}
 use Rattle.insn_ops.specs.declared.op.Op.{Op}
 use Rattle.insn_ops.specs.declared.op.Op.TheVariants as ops
-use Rattle.insn_spellings.proofs.Bools.{both_true, either_true}
 use Rattle.insn_table.proofs.TableInsns.{fitted-made}
 use Rattle.insn_table.specs.Classes.{Form, is_memory, is_nothing, number_fits, numbers_fit, takes, takes_kind, two}
 use Rattle.insn_table.specs.Forms.{chosen, completed, counted_once, fits_of, forms, found_form, general_forms, insn_of, insn_with, is_lone, is_quadword_move, is_shift, is_vector, judged_by, register_width, told_width, vector_register_width, widest, width_of}
@@ -107,8 +106,8 @@ vector-widths Vzeroupper vex w e = ((tt, (tt, (tt, (tt, tt)))), tt)
 width-by : (vex : Bool) (w : ℕ) → is_vector_width vex w ≡ true → IsVectorWidth w
 width-by vex w h =
     ⊎_elim (λ (e : (w == 128) ≡ true). inl ((Decides-eqb w 128).0 e))
-    (λ (e : (vex && w == 256) ≡ true). inr ((Decides-eqb w 256).0 (both_true vex (w == 256) e).1))
-    (either_true (w == 128) (vex && w == 256) h)
+    (λ (e : (vex && w == 256) ≡ true). inr ((Decides-eqb w 256).0 (and_parts vex (w == 256) e).1))
+    (or_cases (w == 128) (vex && w == 256) h)
 
 form-widths : (op : Op) (vex : Bool) (w : ℕ) → AllByRecursion (AreOfWidth w) (forms op vex w)
 form-widths (ops.Vector op) vex w = where_so (is_vector_width vex w) w (forms_at op vex w) (λ h. vector-widths op vex w (width-by vex w h))
@@ -160,7 +159,7 @@ numbers-kept w [] [] [] same of h = refl
 numbers-kept w [] (a ∷ xs) (b ∷ ys) same of h = cc
 numbers-kept w (c ∷ form) [] [] same of h = cc
 numbers-kept w (c ∷ form) (a ∷ xs) (b ∷ ys) same of h =
-    let parts = both_true (number_fits c a) (numbers_fit xs form) h in
+    let parts = and_parts (number_fits c a) (numbers_fit xs form) h in
     and_from (number_fits c b) (numbers_fit ys form) (same.0.fits c of.0 parts.0) (numbers-kept w form xs ys same.1 of.1 parts.1)
 numbers-kept w form [] (b ∷ ys) same of h = absurd same
 numbers-kept w form (a ∷ xs) [] same of h = absurd same

@@ -1,8 +1,7 @@
 -- Immediates as they are printed and read again.
 use Rattle.std.proofs.Common.{◌≡◌, ◌⊎◌, inl, inr, ⊎_elim, ℕ, ◌-◌, ◌/◌, ◌%◌, ◌^◌, ◌<◌, ◌≤◌, eqb, Bool, true, false, ◌||◌, cond, nat_lt, nat_le, ◌++◌, codes, decimal, refl, sym, subst, arith}
-use Rattle.std.proofs.lemmas.Bool.{eqb-true, or_left}
+use Rattle.std.proofs.lemmas.Bool.{eqb-true, or_left, or_cases}
 use Rattle.std.proofs.lemmas.Bool.Decides.{nat_tests}
-use Rattle.insn_spellings.proofs.Bools.{either_true}
 use Rattle.insn_table.specs.Classes.{greatest_immediate, immediate_depth, is_immediate}
 use Rattle.insn_table.specs.declared.insn.Operand.TheVariants.{Imm}
 use Rattle.att_statements.specs.Operands.{Immediate, IsBetween, IsOperandText}
@@ -158,7 +157,7 @@ pub record NumberAgain (w v : ℕ) : Type 0 where
   pub whole : IsVectorWidth w → word_of negative amount ≡ v
 
 in-range : (greatest depth v : ℕ) → (nat_le v greatest || nat_le (2 ^ 64 - depth) v) ≡ true → InRange greatest depth v
-in-range greatest depth v h = ⊎_elim (λ (e : nat_le v greatest ≡ true). inl (le v greatest e)) (λ (e : nat_le (2 ^ 64 - depth) v ≡ true). inr (le (2 ^ 64 - depth) v e)) (either_true _ _ h)
+in-range greatest depth v h = ⊎_elim (λ (e : nat_le v greatest ≡ true). inl (le v greatest e)) (λ (e : nat_le (2 ^ 64 - depth) v ≡ true). inr (le (2 ^ 64 - depth) v e)) (or_cases _ _ h)
   where
     le : (a b : ℕ) → nat_le a b ≡ true → a ≤ b
     le a b e = grind (arith, nat_tests)

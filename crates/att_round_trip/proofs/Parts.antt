@@ -1,9 +1,8 @@
 -- Printed operands, with commas between them.
 use Rattle.std.proofs.Common.{◌≡◌, inl, inr, ℕ, zero, suc, ◌+◌, ◌*◌, ◌<◌, ◌≤◌, ◌==◌, Bool, true, false, ◌&&◌, ◌||◌, if◌then◌else◌, eqb, not, nat_lt, List, [], ◌∷◌, ◌++◌, append-nil, length, length-append, map, replicate, codes, refl, sym, ◌∙◌, ap, subst, arith}
 use Rattle.std.specs.List.{AllByRecursion, list_all}
-use Rattle.std.proofs.lemmas.Bool.{and_from}
+use Rattle.std.proofs.lemmas.Bool.{and_from, and_parts}
 use Rattle.std.proofs.lemmas.Bool.Decides.{nat_tests}
-use Rattle.insn_spellings.proofs.Bools.{both_true}
 use Rattle.insn_table.specs.Classes.{is_nothing}
 use Rattle.insn_table.specs.declared.insn.Operand.{Operand}
 use Rattle.insn_table.specs.declared.insn.Operand.TheVariants.{Imm, Nothing, Reg, Vec}
@@ -22,7 +21,7 @@ is_text b = nat_lt 31 b && (nat_lt b 127 && (not (b == 35) && not (b == 58)))
 pub token-text : (b : ℕ) → is_token b ≡ true → is_text b ≡ true
 unfolding is_token is_text
 token-text b h =
-    let parts = both_true (nat_lt 32 b) _ h in
+    let parts = and_parts (nat_lt 32 b) _ h in
     and_from (nat_lt 31 b) _ (lower b parts.0) parts.1
   where
     lower : (b : ℕ) → nat_lt 32 b ≡ true → nat_lt 31 b ≡ true
@@ -112,7 +111,7 @@ first-solid : (t more : List ℕ) → 0 < length t → list_all is_token t ≡ t
 unfolding is_token
 first-solid [] more some bytes = absurd (omega arith)
 first-solid (b ∷ bs) more some bytes =
-    let solid : is_blank b ≡ false = solid-by b (both_true (nat_lt 32 b) _ (both_true (is_token b) (list_all is_token bs) bytes).0).0 in
+    let solid : is_blank b ≡ false = solid-by b (and_parts (nat_lt 32 b) _ (and_parts (is_token b) (list_all is_token bs) bytes).0).0 in
     rw solid refl
   where
     solid-by : (b : ℕ) → nat_lt 32 b ≡ true → is_blank b ≡ false
@@ -218,8 +217,8 @@ last-behind (x ∷ xs) ys some = last-cons x (xs ++ ys) (omega (arith, length-ap
 -- what each byte passes the last one passes
 pub last-passes : (p : ℕ → Bool) (text : List ℕ) → 0 < length text → list_all p text ≡ true → p (last text) ≡ true
 last-passes p [] some all = absurd (omega arith)
-last-passes p (b ∷ []) some all = (both_true (p b) true all).0
-last-passes p (b ∷ c ∷ cs) some all = last-passes p (c ∷ cs) (omega arith) (both_true (p b) (list_all p (c ∷ cs)) all).1
+last-passes p (b ∷ []) some all = (and_parts (p b) true all).0
+last-passes p (b ∷ c ∷ cs) some all = last-passes p (c ∷ cs) (omega arith) (and_parts (p b) (list_all p (c ∷ cs)) all).1
 
 commas-some : (t : List ℕ) (ts : List (List ℕ)) → 0 < length t → 0 < length (commas (t ∷ ts))
 commas-some t ts some = let begins = commas-begin t ts in omega (arith, ap length begins.1, length-append t begins.0)

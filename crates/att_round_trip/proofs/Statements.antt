@@ -5,7 +5,7 @@ use Rattle.std.specs.Str.{bytes_eq}
 use Rattle.std.proofs.lemmas.Bool.Decides.{nat_tests}
 use Rattle.std.proofs.lemmas.Slice.Eq.{bytes_eq-Decides}
 use Rattle.insn_ops.specs.declared.op.Op.{Op}
-use Rattle.insn_spellings.proofs.Bools.{both_true}
+use Rattle.std.proofs.lemmas.Bool.{and_parts}
 use Rattle.insn_spellings.proofs.Rows.{named-row, passed_at}
 use Rattle.insn_table.proofs.TableInsns.{judged-ok}
 use Rattle.insn_table.specs.Classes.{is_nothing, is_target}
@@ -59,9 +59,9 @@ unfolding is_plain_row
 table-mnemonic m shape h =
     let row = named-row m shape h in
     let plain = passed_at is_plain_row table_rows row.index (m, shape) rows_plain row.there in
-    let one = both_true (list_all is_token m) _ plain in
-    let two = both_true (nat_le (length m) 20) _ one.1 in
-    let three = both_true (begins_word m) _ two.1 in
+    let one = and_parts (list_all is_token m) _ plain in
+    let two = and_parts (nat_le (length m) 20) _ one.1 in
+    let three = and_parts (begins_word m) _ two.1 in
     record { bytes = one.0; short = le (length m) two.0; begins = three.0; other = λ e. differs (bytes_eq m (codes "rep")) three.1 ((bytes_eq-Decides m (codes "rep")).1 e) }
   where
     le : (k : ℕ) → nat_le k 20 ≡ true → k ≤ 20

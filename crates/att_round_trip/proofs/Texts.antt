@@ -7,7 +7,7 @@ use Rattle.std.proofs.lemmas.Bool.Decides.{nat_tests}
 use Rattle.std.proofs.lemmas.Slice.Eq.{bytes_eq-Decides}
 use Rattle.std.proofs.lemmas.Str.{IsAscii-append, IsUtf8-from_ascii}
 use Rattle.outcomes.specs.Firsts.{◌>>=◌, all_of}
-use Rattle.insn_spellings.proofs.Bools.{both_true}
+use Rattle.std.proofs.lemmas.Bool.{and_parts}
 use Rattle.insn_table.specs.Classes.{is_target}
 use Rattle.insn_spellings.specs.Spellings.{table_rows}
 use Rattle.insn_spellings.specs.LegacyRows.{add_to_cltq, cmova_to_cmovnc, cmovne_to_cmovz, cmp_to_lea, mov_to_or, packss_to_pop, por_to_sar, set_rows, shl_to_test, xor_rows}
@@ -48,9 +48,9 @@ is_other x b = not (eqb b x)
 text-parts : (b : ℕ) → is_text b ≡ true → (31 < b) × (b < 127) × (not (b == 35) ≡ true) × (not (b == 58) ≡ true)
 unfolding is_text
 text-parts b h =
-    let one = both_true (nat_lt 31 b) _ h in
-    let two = both_true (nat_lt b 127) _ one.1 in
-    let three = both_true (not (b == 35)) _ two.1 in
+    let one = and_parts (nat_lt 31 b) _ h in
+    let two = and_parts (nat_lt b 127) _ one.1 in
+    let three = and_parts (not (b == 35)) _ two.1 in
     (below 31 b one.0, below b 127 two.0, three.0, three.1)
   where
     below : (a b : ℕ) → nat_lt a b ≡ true → a < b
@@ -81,7 +81,7 @@ text-ascii b h = below b (text-parts b h).1
 ascii-from : (text : List ℕ) → list_all (λ b. nat_lt b 128) text ≡ true → IsAscii text
 ascii-from [] h = λ i. omega arith
 ascii-from (b ∷ bs) h =
-    let parts = both_true (nat_lt b 128) (list_all (λ b. nat_lt b 128) bs) h in
+    let parts = and_parts (nat_lt b 128) (list_all (λ b. nat_lt b 128) bs) h in
     ascii-cons (below b parts.0) (ascii-from bs parts.1)
   where
     below : (b : ℕ) → nat_lt b 128 ≡ true → b < 128
@@ -95,12 +95,12 @@ ascii-from (b ∷ bs) h =
 
 not_return : (text : List ℕ) (k : ℕ) → list_all (is_other 13) text ≡ true → eqb (get_or text k 0) 13 ≡ false
 not_return [] k h = refl
-not_return (b ∷ bs) zero h = none (eqb b 13) (both_true (is_other 13 b) (list_all (is_other 13) bs) h).0
+not_return (b ∷ bs) zero h = none (eqb b 13) (and_parts (is_other 13 b) (list_all (is_other 13) bs) h).0
   where
     none : (t : Bool) → not t ≡ true → t ≡ false
     none false e = refl
     none true e = cc
-not_return (b ∷ bs) (suc k) h = not_return bs k (both_true (is_other 13 b) (list_all (is_other 13) bs) h).1
+not_return (b ∷ bs) (suc k) h = not_return bs k (and_parts (is_other 13 b) (list_all (is_other 13) bs) h).1
 
 kept : (line : List ℕ) → list_all (is_other 13) line ≡ true → strip_carriage_return line ≡ line
 kept line h = let e = not_return line (length line - 1) h in rw e refl
@@ -145,8 +145,8 @@ uncommented : (line : List ℕ) → list_all is_visible line ≡ true → IsUnco
 uncommented line clear = record { comment = []; spelled = sym (append-nil line); clear = clear; begins = inl refl }
 
 at_end : (p : ℕ → Bool) (xs ys : List ℕ) (y : ℕ) → list_all p (xs ++ y ∷ ys) ≡ true → p y ≡ true
-at_end p [] ys y h = (both_true (p y) (list_all p ys) h).0
-at_end p (x ∷ xs) ys y h = at_end p xs ys y (both_true (p x) (list_all p (xs ++ y ∷ ys)) h).1
+at_end p [] ys y h = (and_parts (p y) (list_all p ys) h).0
+at_end p (x ∷ xs) ys y h = at_end p xs ys y (and_parts (p x) (list_all p (xs ++ y ∷ ys)) h).1
 
 unlabelled : (line : List ℕ) → list_all is_text line ≡ true → (name rest : List ℕ) → IsLabelled line name rest → ⊥
 unlabelled line all name rest h =

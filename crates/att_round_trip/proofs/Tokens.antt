@@ -2,11 +2,10 @@
 use Rattle.std.proofs.Common.{◌≡◌, ℕ, suc, ◌+◌, ◌-◌, ◌/◌, ◌%◌, ◌^◌, ◌<◌, ◌≤◌, ◌==◌, Bool, true, false, ◌&&◌, not, cond, nat_lt, nat_le, ℤ, pos, negsuc, List, [], ◌∷◌, ◌++◌, length, Option, Some, None, slice_get, unwrap_or, codes, decimal, refl, sym, ◌∙◌, ap, subst, append_assoc, length-append, arith}
 use Rattle.std.specs.Fmt.{signed_decimal}
 use Rattle.std.specs.List.{list_all}
-use Rattle.std.proofs.lemmas.Bool.{and_from}
+use Rattle.std.proofs.lemmas.Bool.{and_from, and_parts}
 use Rattle.std.proofs.lemmas.Bool.Decides.{nat_tests}
 use Rattle.std.proofs.lemmas.Fmt.{decimal_by_steps, decimal_nonempty, length-decimal-le}
 use Rattle.std.proofs.lemmas.List.Folds.{list_all-append}
-use Rattle.insn_spellings.proofs.Bools.{both_true}
 use Rattle.register_names.proofs.NameTexts.{all-names}
 use Rattle.register_names.specs.Names.{register_names}
 use Rattle.att_statements.specs.Operands.{IsUncut, open_after, open_behind}
@@ -26,21 +25,21 @@ is_simple b = is_inner b && not (b == 44)
 
 inner-token : (b : ℕ) → is_inner b ≡ true → is_token b ≡ true
 unfolding is_inner
-inner-token b h = (both_true (is_token b) _ h).0
+inner-token b h = (and_parts (is_token b) _ h).0
 
 simple-inner : (b : ℕ) → is_simple b ≡ true → is_inner b ≡ true
 unfolding is_simple
-simple-inner b h = (both_true (is_inner b) _ h).0
+simple-inner b h = (and_parts (is_inner b) _ h).0
 
 simple-comma : (b : ℕ) → is_simple b ≡ true → not (b == 44) ≡ true
 unfolding is_simple
-simple-comma b h = (both_true (is_inner b) _ h).1
+simple-comma b h = (and_parts (is_inner b) _ h).1
 
 -- what holds of each byte, where it follows
 pub all-weaker : (p q : ℕ → Bool) (xs : List ℕ) → ((b : ℕ) → p b ≡ true → q b ≡ true) → list_all p xs ≡ true → list_all q xs ≡ true
 all-weaker p q [] weaker h = refl
 all-weaker p q (b ∷ bs) weaker h =
-    let parts = both_true (p b) (list_all p bs) h in
+    let parts = and_parts (p b) (list_all p bs) h in
     and_from (q b) (list_all q bs) (weaker b parts.0) (all-weaker p q bs weaker parts.1)
 
 -- what each byte of two texts passes
@@ -56,7 +55,7 @@ open-more n (b ∷ xs) ys = open-more (open_behind n b) xs ys
 open-same : (n b : ℕ) → is_inner b ≡ true → open_behind n b ≡ n
 unfolding is_inner
 open-same n b h =
-    let parts = both_true (not (b == 40)) (not (b == 41)) (both_true (is_token b) _ h).1 in
+    let parts = and_parts (not (b == 40)) (not (b == 41)) (and_parts (is_token b) _ h).1 in
     opens (b == 40) (b == 41) n parts.0 parts.1
   where
     opens : (x y : Bool) (n : ℕ) → not x ≡ true → not y ≡ true → cond x (n + 1) (cond y (n - 1) n) ≡ n
@@ -68,7 +67,7 @@ open-same n b h =
 open-kept : (n : ℕ) (text : List ℕ) → list_all is_inner text ≡ true → open_after n text ≡ n
 open-kept n [] h = refl
 open-kept n (b ∷ text) h =
-    let parts = both_true (is_inner b) (list_all is_inner text) h in
+    let parts = and_parts (is_inner b) (list_all is_inner text) h in
     subst (λ (m : ℕ). open_after m text ≡ n) (sym (open-same n b parts.0)) (open-kept n text parts.1)
 
 no_byte : (n : ℕ) → IsUncut n []
@@ -92,7 +91,7 @@ uncut-onto n b text first later (x ∷ before) after e =
 uncut-inside : (n : ℕ) (text : List ℕ) → list_all is_inner text ≡ true → IsUncut (suc n) text
 uncut-inside n [] h = no_byte (suc n)
 uncut-inside n (b ∷ text) h =
-    let parts = both_true (is_inner b) (list_all is_inner text) h in
+    let parts = and_parts (is_inner b) (list_all is_inner text) h in
     uncut-onto (suc n) b text (λ e. omega arith) (subst (λ (m : ℕ). IsUncut m text) (sym (open-same (suc n) b parts.0)) (uncut-inside n text parts.1))
 
 comma_apart : (b n : ℕ) → is_simple b ≡ true → b ≡ 44 → 0 < n
@@ -102,7 +101,7 @@ comma_apart b n h e = let none = subst (λ (x : ℕ). not (x == 44) ≡ true) e 
 uncut-simple : (n : ℕ) (text : List ℕ) → list_all is_simple text ≡ true → IsUncut n text
 uncut-simple n [] h = no_byte n
 uncut-simple n (b ∷ text) h =
-    let parts = both_true (is_simple b) (list_all is_simple text) h in
+    let parts = and_parts (is_simple b) (list_all is_simple text) h in
     uncut-onto n b text (comma_apart b n parts.0)
     (subst (λ (m : ℕ). IsUncut m text) (sym (open-same n b (simple-inner b parts.0))) (uncut-simple n text parts.1))
 

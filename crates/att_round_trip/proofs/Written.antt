@@ -3,7 +3,7 @@ use Rattle.std.proofs.Common.{◌≡◌, ◌⊎◌, inl, inr, ℕ, zero, suc, �
 use Rattle.std.specs.List.{AllByRecursion, AllZip, list_all}
 use Rattle.std.proofs.lemmas.Bool.Decides.{nat_tests}
 use Rattle.insn_ops.specs.declared.op.Op.{Op}
-use Rattle.insn_spellings.proofs.Bools.{both_true}
+use Rattle.std.proofs.lemmas.Bool.{and_parts}
 use Rattle.insn_table.specs.Classes.{is_immediate, is_memory, is_within, number_fits, takes_kind}
 use Rattle.insn_table.specs.Forms.{is_vector, register_width, vector_register_width}
 use Rattle.insn_table.specs.Table.{IsScale}
@@ -30,18 +30,18 @@ IsWritten o = ((v : ℕ) × (v < 2 ^ 64) × (o ≡ Imm v)) ⊎ ((text : List ℕ
 -- a token's byte is no blank
 pub token-solid : (b : ℕ) → is_token b ≡ true → is_blank b ≡ false
 unfolding is_token
-token-solid b h = solid b (both_true (nat_lt 32 b) _ h).0
+token-solid b h = solid b (and_parts (nat_lt 32 b) _ h).0
   where
     solid : (b : ℕ) → nat_lt 32 b ≡ true → is_blank b ≡ false
     solid b e = grind (arith, nat_tests)
 
 last-token : (front : List ℕ) (b : ℕ) → list_all is_token (front ++ b ∷ []) ≡ true → is_token b ≡ true
-last-token [] b h = (both_true (is_token b) true h).0
-last-token (x ∷ front) b h = last-token front b (both_true (is_token x) _ h).1
+last-token [] b h = (and_parts (is_token b) true h).0
+last-token (x ∷ front) b h = last-token front b (and_parts (is_token x) _ h).1
 
 token-trimmed : (text : List ℕ) → list_all is_token text ≡ true → IsTrimmed text
 token-trimmed text h = record {
-  begins = λ b rest e. token-solid b (both_true (is_token b) (list_all is_token rest) (subst (λ (t : List ℕ). list_all is_token t ≡ true) e h)).0;
+  begins = λ b rest e. token-solid b (and_parts (is_token b) (list_all is_token rest) (subst (λ (t : List ℕ). list_all is_token t ≡ true) e h)).0;
   ends = λ front b e. token-solid b (last-token front b (subst (λ (t : List ℕ). list_all is_token t ≡ true) e h));
 }
 
@@ -84,7 +84,7 @@ number-kind (class.Register w) u v = refl
 number-kind _ u v = refl
 
 count-below : (v w : ℕ) → (nat_lt 0 v && nat_lt v w) ≡ true → v < w
-count-below v w h = below v w (both_true (nat_lt 0 v) (nat_lt v w) h).1
+count-below v w h = below v w (and_parts (nat_lt 0 v) (nat_lt v w) h).1
   where
     below : (a b : ℕ) → nat_lt a b ≡ true → a < b
     below a b e = grind (arith, nat_tests)

@@ -21,7 +21,7 @@ use Rattle.insn_spellings.specs.LegacyRows.{add_to_cltq, cmova_to_cmovnc, cmovne
 use Rattle.insn_spellings.specs.VexRows.{vand_to_vpbroadcast, vpcmp_to_vpmul, vpor_to_vzeroupper}
 use Rattle.insn_table.specs.Table.{IsTableInsn}
 use Rattle.insn_spellings.specs.Widths.{has_shape, has_suffix, has_width, has_vectors, is_long, is_shape, is_wide, vector_width, widens_to}
-use Rattle.insn_spellings.proofs.Bools.{both_true, either_true}
+use Rattle.std.proofs.lemmas.Bool.{and_parts, or_cases}
 use Rattle.insn_table.proofs.TableInsns.{IsMade, fitted-made}
 use Rattle.insn_mnemonics.specs.Mnemonics.{mnemonic}
 use Rattle.insn_mnemonics.proofs.VectorNaming.{names-vector, quadword_named}
@@ -37,15 +37,15 @@ by_one : (Fact : ℕ → Type 0) (v w : ℕ) → (w == v) ≡ true → Fact v �
 by_one Fact v w h at = subst Fact (sym ((Decides-eqb w v).0 h)) at
 
 by_two : (Fact : ℕ → Type 0) (w : ℕ) → is_long w ≡ true → Fact 32 → Fact 64 → Fact w
-by_two Fact w h at_32 at_64 = ⊎_elim (λ e. by_one Fact 32 w e at_32) (λ e. by_one Fact 64 w e at_64) (either_true (w == 32) (w == 64) h)
+by_two Fact w h at_32 at_64 = ⊎_elim (λ e. by_one Fact 32 w e at_32) (λ e. by_one Fact 64 w e at_64) (or_cases (w == 32) (w == 64) h)
 
 by_wide : (Fact : ℕ → Type 0) (w : ℕ) → is_wide w ≡ true → Fact 16 → Fact 32 → Fact 64 → Fact w
 by_wide Fact w h at_16 at_32 at_64 =
-    ⊎_elim (λ e. by_one Fact 16 w e at_16) (λ e. by_two Fact w e at_32 at_64) (either_true (w == 16) (w == 32 || w == 64) h)
+    ⊎_elim (λ e. by_one Fact 16 w e at_16) (λ e. by_two Fact w e at_32 at_64) (or_cases (w == 16) (w == 32 || w == 64) h)
 
 by_width : (Fact : ℕ → Type 0) (w : ℕ) → has_suffix w ≡ true → Fact 8 → Fact 16 → Fact 32 → Fact 64 → Fact w
 by_width Fact w h at_8 at_16 at_32 at_64 =
-    ⊎_elim (λ e. by_one Fact 8 w e at_8) (λ e. by_wide Fact w e at_16 at_32 at_64) (either_true (w == 8) (is_wide w) h)
+    ⊎_elim (λ e. by_one Fact 8 w e at_8) (λ e. by_wide Fact w e at_16 at_32 at_64) (or_cases (w == 8) (is_wide w) h)
 
 -- each row, looked up
 
@@ -259,24 +259,24 @@ names-Endbr64 = refl
 names-zero : (from w : ℕ) → widens_to from w ≡ true → Names (ops.Movzx from) w
 names-zero from w h =
     ⊎_elim
-    (λ e. let parts = both_true (from == 8) (is_wide w) e in by_one (λ m. Names (ops.Movzx m) w) 8 from parts.0 (names-from_8 w parts.1).0)
-    (λ e. let parts = both_true (from == 16) (is_long w) e in by_one (λ m. Names (ops.Movzx m) w) 16 from parts.0 (names-from_16 w parts.1).0)
-    (either_true (from == 8 && is_wide w) (from == 16 && is_long w) h)
+    (λ e. let parts = and_parts (from == 8) (is_wide w) e in by_one (λ m. Names (ops.Movzx m) w) 8 from parts.0 (names-from_8 w parts.1).0)
+    (λ e. let parts = and_parts (from == 16) (is_long w) e in by_one (λ m. Names (ops.Movzx m) w) 16 from parts.0 (names-from_16 w parts.1).0)
+    (or_cases (from == 8 && is_wide w) (from == 16 && is_long w) h)
 
 names-sign_by : (from w : ℕ) → widens_to from w ≡ true → Names (ops.Movsx from) w
 names-sign_by from w h =
     ⊎_elim
-    (λ e. let parts = both_true (from == 8) (is_wide w) e in by_one (λ m. Names (ops.Movsx m) w) 8 from parts.0 (names-from_8 w parts.1).1)
-    (λ e. let parts = both_true (from == 16) (is_long w) e in by_one (λ m. Names (ops.Movsx m) w) 16 from parts.0 (names-from_16 w parts.1).1)
-    (either_true (from == 8 && is_wide w) (from == 16 && is_long w) h)
+    (λ e. let parts = and_parts (from == 8) (is_wide w) e in by_one (λ m. Names (ops.Movsx m) w) 8 from parts.0 (names-from_8 w parts.1).1)
+    (λ e. let parts = and_parts (from == 16) (is_long w) e in by_one (λ m. Names (ops.Movsx m) w) 16 from parts.0 (names-from_16 w parts.1).1)
+    (or_cases (from == 8 && is_wide w) (from == 16 && is_long w) h)
 
 names-sign : (from w : ℕ) → (widens_to from w || (from == 32 && w == 64)) ≡ true → Names (ops.Movsx from) w
 names-sign from w h =
     ⊎_elim
     (λ e. names-sign_by from w e)
-    (λ e. let parts = both_true (from == 32) (w == 64) e in
+    (λ e. let parts = and_parts (from == 32) (w == 64) e in
     by_one (λ m. Names (ops.Movsx m) w) 32 from parts.0 (by_one (Names (ops.Movsx 32)) 64 w parts.1 names-from_32))
-    (either_true (widens_to from w) (from == 32 && w == 64) h)
+    (or_cases (widens_to from w) (from == 32 && w == 64) h)
 
 -- a move by condition whose width is written
 names-Cmov : (c : Cond) (w : ℕ) → is_wide w ≡ true → Names (ops.Cmov c) w
@@ -333,11 +333,11 @@ shape-printed : (op : Op) (vex : Bool) (v w : ℕ) → has_shape op vex v ≡ tr
     → named table_rows (mnemonic op vex w) ≡ Some (record { op = op; w = v; vex = vex })
 unfolding Names vectors.Names
 shape-printed (ops.Vector op) vex v w h same written =
-    let both = both_true (has_vectors vex op) (v == vector_width vex op) h in
+    let both = and_parts (has_vectors vex op) (v == vector_width vex op) h in
     let width : v ≡ vector_width vex op = (Decides-eqb v (vector_width vex op)).0 both.1 in
     names-vector vex op both.0 ∙ ap (λ (x : ℕ). Some (record { op = ops.Vector op; w = x; vex = vex })) (sym width)
 shape-printed op vex v w h same (inl written) =
-    let both = both_true (not vex) (has_width op v) h in
+    let both = and_parts (not vex) (has_width op v) h in
     let here : named table_rows (mnemonic op false v) ≡ Some (general op v) = names op v both.1 written in
     let there : named table_rows (mnemonic op vex w) ≡ named table_rows (mnemonic op false v) = (λ k. named table_rows (mnemonic op (no_vex vex both.0 k) (same written k))) in
     let shape : general op v ≡ record { op = op; w = v; vex = vex } = (λ k. record { op = op; w = v; vex = sym (no_vex vex both.0) k }) in
@@ -348,15 +348,15 @@ shape-printed op vex v w h same (inr none) = absurd none
 
 widens_to_none : (from : ℕ) → widens_to from 0 ≡ true → ⊥
 widens_to_none from h =
-    ⊎_elim (λ e. let both = both_true (from == 8) false e in let no : false ≡ true = both.1 in cc)
-    (λ e. let both = both_true (from == 16) false e in let no : false ≡ true = both.1 in cc)
-    (either_true (from == 8 && false) (from == 16 && false) h)
+    ⊎_elim (λ e. let both = and_parts (from == 8) false e in let no : false ≡ true = both.1 in cc)
+    (λ e. let both = and_parts (from == 16) false e in let no : false ≡ true = both.1 in cc)
+    (or_cases (from == 8 && false) (from == 16 && false) h)
 
 signed_none : (from : ℕ) → (widens_to from 0 || (from == 32 && false)) ≡ true → ⊥
 signed_none from h =
     ⊎_elim (λ e. widens_to_none from e)
-    (λ e. let both = both_true (from == 32) false e in let no : false ≡ true = both.1 in cc)
-    (either_true (widens_to from 0) (from == 32 && false) h)
+    (λ e. let both = and_parts (from == 32) false e in let no : false ≡ true = both.1 in cc)
+    (or_cases (widens_to from 0) (from == 32 && false) h)
 
 unwritten-move : (op : Op) → has_width op 0 ≡ true → (c : Cond) × (op ≡ ops.Cmov c)
 unwritten-move (ops.Cmov c) h = (c, refl)
@@ -399,7 +399,7 @@ kept-printed true (ops.Vector op) vex v i e same_op same_vex width form known fo
     let same : named table_rows (mnemonic i.op i.vex i.w) ≡ named table_rows (mnemonic (ops.Vector op) vex i.w) = (λ k. named table_rows (mnemonic (same_op k) (same_vex k) i.w)) in
     (record { op = ops.Vector op; w = v; vex = vex }, same ∙ shape-printed (ops.Vector op) vex v i.w known width (inr tt), accepted)
 kept-printed true op vex v i e same_op same_vex width form known found numbers accepted =
-    let both = both_true (not vex) (has_width op v) known in
+    let both = and_parts (not vex) (has_width op v) known in
     let none : v ≡ 0 = (Decides-eqb v 0).0 e in
     let move = unwritten-move op (subst (λ (x : ℕ). has_width op x ≡ true) none both.1) in
     let is_move : i.op ≡ ops.Cmov move.0 = same_op ∙ move.1 in
@@ -411,7 +411,7 @@ kept-printed true op vex v i e same_op same_vex width form known found numbers a
 
 quadword-shape : (op : Op) (w : ℕ) (vex : Bool) → is_quadword_move op w vex ≡ true → general ops.Mov 64 ≡ record { op = op; w = w; vex = vex }
 quadword-shape ops.Mov w vex h =
-    let both = both_true (not vex) (w == 64) h in
+    let both = and_parts (not vex) (w == 64) h in
     λ k. record { op = ops.Mov; w = sym ((Decides-eqb w 64).0 both.1) k; vex = sym (no_vex vex both.0) k }
 quadword-shape _ w vex h = cc
 
@@ -422,7 +422,7 @@ chosen-printed true shape i e made accepted =
     let row : chosen shape i.args ≡ general (ops.Vector (Moving Movq)) 128 = rw e refl in
     let op : i.op ≡ ops.Vector (Moving Movq) = sym (ap (λ (x : Insn). x.op) made.same) ∙ ap (λ (r : Shape). r.op) row in
     let vex : i.vex ≡ false = sym (ap (λ (x : Insn). x.vex) made.same) ∙ ap (λ (r : Shape). r.vex) row in
-    let is : general ops.Mov 64 ≡ shape = quadword-shape shape.op shape.w shape.vex (both_true _ _ e).0 in
+    let is : general ops.Mov 64 ≡ shape = quadword-shape shape.op shape.w shape.vex (and_parts _ _ e).0 in
     let same : named table_rows (mnemonic i.op i.vex i.w) ≡ named table_rows (mnemonic (ops.Vector (Moving Movq)) false i.w) = (λ k. named table_rows (mnemonic (op k) (vex k) i.w)) in
     (general ops.Mov 64, same ∙ quadword_named, subst (λ (x : Shape). fits_of x i.args i.line ≡ Ok i) (sym is) accepted)
 chosen-printed false shape i e made accepted =

@@ -1,3 +1,2 @@
-pub mod Bools
 pub mod Rows
 pub mod Shapes

@@ -4,7 +4,7 @@ use Rattle.std.specs.List.{list_all}
 use Rattle.std.proofs.lemmas.Bool.Decides.{Decides-eqb, nat_tests}
 use Rattle.std.proofs.lemmas.Fmt.{decimal_digit}
 use Rattle.std.proofs.lemmas.List.{append-nil}
-use Rattle.insn_spellings.proofs.Bools.{both_true}
+use Rattle.std.proofs.lemmas.Bool.{and_parts}
 use Rattle.insn_table.specs.declared.insn.Operand.{Operand}
 use Rattle.insn_table.specs.declared.insn.Operand.TheVariants.{Reg, Mem, Vec}
 use Rattle.insn_table.specs.Table.{IsScale}
@@ -26,12 +26,12 @@ is_plain : ℕ → Bool
 is_plain b = not (is_blank b) && (not (b == 44) && (not (b == 40) && not (b == 41)))
 
 plain-at : (before after : List ℕ) (b : ℕ) → list_all is_plain (before ++ b ∷ after) ≡ true → is_plain b ≡ true
-plain-at [] after b h = (both_true _ _ h).0
-plain-at (a ∷ before) after b h = plain-at before after b (both_true _ _ h).1
+plain-at [] after b h = (and_parts _ _ h).0
+plain-at (a ∷ before) after b h = plain-at before after b (and_parts _ _ h).1
 
 solid : (b : ℕ) → is_plain b ≡ true → is_blank b ≡ false
 unfolding is_plain
-solid b h = not_false (is_blank b) (both_true _ _ h).0
+solid b h = not_false (is_blank b) (and_parts _ _ h).0
   where
     not_false : (x : Bool) → not x ≡ true → x ≡ false
     not_false true h = cc
@@ -54,7 +54,7 @@ uncut n text h before after e =
 open-same : (n b : ℕ) → is_plain b ≡ true → open_behind n b ≡ n
 unfolding is_plain
 open-same n b h =
-    let parts = both_true _ _ (both_true _ _ (both_true _ _ h).1).1 in
+    let parts = and_parts _ _ (and_parts _ _ (and_parts _ _ h).1).1 in
     opens (b == 40) (b == 41) n parts.0 parts.1
   where
     opens : (x y : Bool) (n : ℕ) → not x ≡ true → not y ≡ true → cond x (n + 1) (cond y (n - 1) n) ≡ n
@@ -65,7 +65,7 @@ open-same n b h =
 open-kept : (n : ℕ) (text : List ℕ) → list_all is_plain text ≡ true → open_after n text ≡ n
 open-kept n [] h = refl
 open-kept n (b ∷ text) h =
-    let parts = both_true (is_plain b) (list_all is_plain text) h in
+    let parts = and_parts (is_plain b) (list_all is_plain text) h in
     subst (λ (m : ℕ). open_after m text ≡ n) (sym (open-same n b parts.0)) (open-kept n text parts.1)
 
 -- registers
@@ -162,7 +162,7 @@ other_byte b false is h = refl
 digits-unparenthesised : (ds : List ℕ) → list_all (λ b. nat_lt (digit_value b) 10) ds ≡ true → list_all (λ b. not (b == 40)) ds ≡ true
 digits-unparenthesised [] h = refl
 digits-unparenthesised (b ∷ ds) h =
-    let parts = both_true (nat_lt (digit_value b) 10) (list_all (λ b. nat_lt (digit_value b) 10) ds) h in
+    let parts = and_parts (nat_lt (digit_value b) 10) (list_all (λ b. nat_lt (digit_value b) 10) ds) h in
     rw (other_byte b (b == 40) (λ e. (Decides-eqb b 40).0 e) parts.0) (digits-unparenthesised ds parts.1)
 
 unparenthesised : (disp : ℤ) → IsBounded disp → list_all (λ b. not (b == 40)) (displacement_text disp) ≡ true

@@ -1,7 +1,7 @@
 -- Cuts by the rules stand for cuts.
 use Rattle.std.proofs.Common.{◌≡◌, ℕ, zero, suc, ◌+◌, ◌-◌, ◌^◌, ◌<◌, ◌≤◌, ◌==◌, List, Option, Some, None, Bool, true, false, ◌&&◌, length, refl, sym, ◌∙◌, ap, subst, arith, inl, inr, if◌then◌else◌}
 use Rattle.std.specs.Prelude.{is_some, nat_le, unwrap_or}
-use Rattle.std.proofs.lemmas.Bool.{cases_Bool, cond_both, eq-eqb, eqb-true, leb-true}
+use Rattle.std.proofs.lemmas.Bool.{cases_Bool, cond_both, eq-eqb, eqb-true, leb-true, and_parts}
 use Rattle.std.proofs.lemmas.Nat.{mod_below, pow_pos}
 use Rattle.insn_semantics.specs.Words.{cut}
 use Rattle.node_values.specs.declared.node.Node.{Node}
@@ -19,10 +19,6 @@ use Rattle.terms.specs.declared.rules.Reduced.TheVariants.{Old, New}
 use Rattle.terms.specs.Rules.{cut_at, cut_by_inner, cut_made, inner, is_constant, number_at}
 use Rattle.terms.specs.Sheet.{Stands}
 use Rattle.terms.proofs.WordRules.{cut_all, cut_cut, cut_high, cut_low}
-
-pub both_true : (a b : Bool) → (a && b) ≡ true → (a ≡ true) × (b ≡ true)
-both_true true b h = (refl, h)
-both_true false b h = cc
 
 known : (o : Option ℕ) → is_some o ≡ true → o ≡ Some (unwrap_or o 0)
 known None h = cc
@@ -212,7 +208,7 @@ module _ (ns : List Node) (sheet : IsSheet ns) where
       ))
       (λ f. cond_both ((k == 0) && (n == W i)) (Old (id_of i)) _ (Stands ns (Cut (id_of i) k n))
       (λ t.
-      let all = both_true (k == 0) (n == W i) t in
+      let all = and_parts (k == 0) (n == W i) t in
       let start : k ≡ 0 = eqb-true k 0 all.0 in
       let size : n ≡ W i = eqb-true n (W i) all.1 in
       (b, sym size, λ e. rw (start, size) (sym (cut_all (W i) (value_at e ns i) (value_at-below ns sheet e i b)))))

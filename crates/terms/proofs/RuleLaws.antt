@@ -3,7 +3,7 @@ use Rattle.std.proofs.Common.{◌≡◌, ℕ, ◌+◌, ◌-◌, ◌^◌, ◌<◌
 use Rattle.std.specs.Prelude.{nat_le, slice_index, bit_and, bit_or, bit_xor}
 use Rattle.std.specs.List.{AllByRecursion, list_all}
 use Rattle.std.specs.Int.Bits.{and_self, and_zero_r, or_self, or_zero_r, xor_self, xor_zero_r}
-use Rattle.std.proofs.lemmas.Bool.{cond_both, eqb-true}
+use Rattle.std.proofs.lemmas.Bool.{cond_both, eqb-true, and_parts}
 use Rattle.std.proofs.lemmas.Nat.{and_comm, or_comm, xor_comm, pow_pos}
 use Rattle.insn_semantics.specs.Words as words
 use Rattle.insn_semantics.proofs.WordLaws.{minus_self}
@@ -22,7 +22,7 @@ use Rattle.terms.specs.declared.rules.Reduced.{Reduced}
 use Rattle.terms.specs.declared.rules.Reduced.TheVariants.{Old, New}
 use Rattle.terms.specs.Rules.{are_constants, folded, is_constant, is_folded, is_number, joined, number_at, ordered, part_of, reduced, unfolded}
 use Rattle.terms.specs.Sheet.{Stands}
-use Rattle.terms.proofs.CutLaws.{both_true, cut_stands, number_known}
+use Rattle.terms.proofs.CutLaws.{cut_stands, number_known}
 use Rattle.terms.proofs.WordRules.{and_ones, below_self, below_zero, choice_self, cut_all, equal_comm, join_cuts, minus_zero, plus_comm, plus_zero, times_comm}
 
 -- the environment in which all is 0
@@ -39,13 +39,13 @@ module _ (ns : List Node) (sheet : IsSheet ns) where
   -- the value of a number of the sheet
   number_value : (e : Environment) (v i : ℕ) → i < length ns → is_number ns v i ≡ true → V e i ≡ v
   number_value e v i b h =
-      let all = both_true (is_constant ns i) (number_at ns i == v) h in
+      let all = and_parts (is_constant ns i) (number_at ns i == v) h in
       constant_at e ns sheet i (number_at ns i) b (number_known ns i all.0) ∙ eqb-true (number_at ns i) v all.1
 
   all_constants : (is : List ℕ) → list_all (is_constant ns) is ≡ true → AllByRecursion (λ i. is_constant ns i ≡ true) is
   all_constants [] h = tt
   all_constants (i ∷ is) h =
-      let all = both_true (is_constant ns i) (list_all (is_constant ns) is) h in (all.0, all_constants is all.1)
+      let all = and_parts (is_constant ns i) (list_all (is_constant ns) is) h in (all.0, all_constants is all.1)
 
   constants : (is : List ℕ) → are_constants ns is ≡ true → AllByRecursion (λ i. is_constant ns i ≡ true) is
   constants [] h = tt
@@ -273,7 +273,7 @@ module _ (ns : List Node) (sheet : IsSheet ns) where
       joined_stands p l hp hl =
           cond_both ((p.0.0 == l.0.0) && (p.1 == l.1 + l.2)) _ (New (Cat high low)) (Stands ns (Cat high low))
           (λ t.
-          let all = both_true (p.0.0 == l.0.0) (p.1 == l.1 + l.2) t in
+          let all = and_parts (p.0.0 == l.0.0) (p.1 == l.1 + l.2) t in
           let same : p.0.0 ≡ l.0.0 = eqb-true p.0.0 l.0.0 all.0 in
           let next : p.1 ≡ l.1 + l.2 = eqb-true p.1 (l.1 + l.2) all.1 in
           let within : l.1 + (l.2 + p.2) ≤ W l.0.0 = omega (arith, next, hp.2, ap W same) in

@@ -1,10 +1,12 @@
 -- What loading a test answers.
-use Rattle.std.proofs.Common.{◌≡◌, ℕ, ◌+◌, ◌-◌, ◌<◌, ◌≤◌, ◌==◌, Bool, true, false, not, ◌&&◌, nat_le, nat_lt, List, None, Some, Result, Ok, Err, IfOk, inl, inr, refl, sym, ap, subst, arith}
+use Rattle.std.proofs.Common.{◌≡◌, ℕ, ◌+◌, ◌-◌, ◌<◌, ◌≤◌, ◌==◌, Bool, true, false, not, ◌&&◌, nat_le, nat_lt, List, None, Some, Result, Ok, Err, IfErr, IfOk, inl, inr, refl, sym, ap, subst, arith}
 use Rattle.std.specs.Prelude.{sum_by}
 use Rattle.std.specs.List.{Any, list_any}
 use Rattle.std.proofs.lemmas.Bool.{eq-eqb, false≢true}
 use Rattle.std.proofs.lemmas.Bool.Decides.{nat_tests}
 use Rattle.std.proofs.lemmas.List.Folds.{Any-from_list_any, list_any-from_Any}
+use Rattle.outcomes.specs.Answering.{Answers, Gives}
+use Rattle.outcomes.proofs.Answering.{unless-map}
 use Rattle.memory_spans.specs.declared.region.Region.{Region}
 use Rattle.machine.specs.Kept.{Kept, pure_of}
 use Rattle.machine.specs.Machine.{IsStart}
@@ -15,7 +17,7 @@ use Rattle.tests_text.specs.declared.test.Test.{Test}
 use Rattle.test_states.specs.declared.refusal.LoadRefusal.{LoadRefusal}
 use Rattle.test_states.specs.declared.refusal.LoadRefusal.TheVariants.{ByteOutside, Memory, NotAdmitted, RegionsLarge}
 use Rattle.test_states.specs.Choosing.{least_outside, region_has}
-use Rattle.test_states.specs.Loads.{GivesRefusal, GivesState, IsRefused, Loads}
+use Rattle.test_states.specs.Loads.{IsRefused, LoadsAs}
 use Rattle.test_states.specs.Starts.{IsFirstOutside, IsInRegion, IsLoadable, IsNamed, start_of, total_length}
 use Rattle.test_states.proofs.Keeping.{named_from_test}
 use Rattle.test_states.proofs.Outside.{is_named, least_is, none_outside}
@@ -99,32 +101,39 @@ same_first a t x y f g = same_number x y (λ less. g.least x less f.outside) (λ
 too_large : {n : ℕ} → n ≤ 65536 → 65536 < n → ⊥
 too_large small large = omega arith
 
--- of a test, one answer is so at most
-pub gives_state : (a : Admission) (t : Test) (r : Result Kept LoadRefusal) → Loads a t r → IsLoadable a t → GivesState r
-gives_state a t (Ok s) l h = tt
-gives_state a t (Err NotAdmitted) l h = l h.admitted
-gives_state a t (Err RegionsLarge) l h = too_large h.small l.1
-gives_state a t (Err (ByteOutside at)) l h = l.2.outside.outside (h.inside at l.2.outside.named)
-gives_state a t (Err Memory) l h = tt
+-- a test that is refused has no start state
+pub refused_or_not : (a : Admission) (t : Test) (e : LoadRefusal) → IsRefused a t e → IsLoadable a t → ⊥
+refused_or_not a t NotAdmitted h l = h l.admitted
+refused_or_not a t RegionsLarge h l = too_large l.small h.1
+refused_or_not a t (ByteOutside at) h l = h.2.outside.outside (l.inside at h.2.outside.named)
+refused_or_not a t Memory h l = h
 
-pub gives_refusal : (a : Admission) (t : Test) (r : Result Kept LoadRefusal) → Loads a t r → (e : LoadRefusal) → IsRefused a t e → GivesRefusal e r
-gives_refusal a t (Ok s) l NotAdmitted h = h l.0.admitted
-gives_refusal a t (Ok s) l RegionsLarge h = too_large l.0.small h.1
-gives_refusal a t (Ok s) l (ByteOutside x) h = h.2.outside.outside (l.0.inside x h.2.outside.named)
-gives_refusal a t (Ok s) l Memory h = h
-gives_refusal a t (Err NotAdmitted) l NotAdmitted h = refl
-gives_refusal a t (Err NotAdmitted) l RegionsLarge h = absurd (l h.0)
-gives_refusal a t (Err NotAdmitted) l (ByteOutside x) h = absurd (l h.0)
-gives_refusal a t (Err NotAdmitted) l Memory h = absurd h
-gives_refusal a t (Err RegionsLarge) l NotAdmitted h = absurd (h l.0)
-gives_refusal a t (Err RegionsLarge) l RegionsLarge h = refl
-gives_refusal a t (Err RegionsLarge) l (ByteOutside x) h = absurd (too_large h.1 l.1)
-gives_refusal a t (Err RegionsLarge) l Memory h = absurd h
-gives_refusal a t (Err (ByteOutside at)) l NotAdmitted h = absurd (h l.0)
-gives_refusal a t (Err (ByteOutside at)) l RegionsLarge h = absurd (too_large l.1 h.1)
-gives_refusal a t (Err (ByteOutside at)) l (ByteOutside x) h = ap ByteOutside (same_first a t x at h.2 l.2)
-gives_refusal a t (Err (ByteOutside at)) l Memory h = absurd h
-gives_refusal a t (Err Memory) l e h = tt
+-- a test is refused for one reason
+pub one_refusal : (a : Admission) (t : Test) (e d : LoadRefusal) → IsRefused a t e → IsRefused a t d → d ≡ e
+one_refusal a t NotAdmitted NotAdmitted h k = refl
+one_refusal a t NotAdmitted RegionsLarge h k = absurd (h k.0)
+one_refusal a t NotAdmitted (ByteOutside x) h k = absurd (h k.0)
+one_refusal a t RegionsLarge NotAdmitted h k = absurd (k h.0)
+one_refusal a t RegionsLarge RegionsLarge h k = refl
+one_refusal a t RegionsLarge (ByteOutside x) h k = absurd (too_large k.1 h.1)
+one_refusal a t (ByteOutside at) NotAdmitted h k = absurd (k h.0)
+one_refusal a t (ByteOutside at) RegionsLarge h k = absurd (too_large h.1 k.1)
+one_refusal a t (ByteOutside at) (ByteOutside x) h k = ap ByteOutside (same_first a t x at k.2 h.2)
+one_refusal a t Memory d h k = absurd h
+one_refusal a t NotAdmitted Memory h k = absurd k
+one_refusal a t RegionsLarge Memory h k = absurd k
+one_refusal a t (ByteOutside at) Memory h k = absurd k
+
+-- so of a test one answer is so at most
+pub gives_state : (a : Admission) (t : Test) (r : Result Kept LoadRefusal) → Answers Memory (LoadsAs a t) (IsRefused a t) r → IsLoadable a t → IfErr r (λ e. e ≡ Memory)
+gives_state a t (Ok s) l h = tt
+gives_state a t (Err e) (inl memory) h = memory
+gives_state a t (Err e) (inr is) h = absurd (refused_or_not a t e is h)
+
+pub gives_refusal : (a : Admission) (t : Test) (r : Result Kept LoadRefusal) → Answers Memory (LoadsAs a t) (IsRefused a t) r → (e : LoadRefusal) → IsRefused a t e
+    → Gives Memory r (Err e)
+gives_refusal a t (Ok s) l e h = absurd (refused_or_not a t e h l.0)
+gives_refusal a t (Err d) l e h = unless-map (λ (is : IsRefused a t d). ap (λ (x : LoadRefusal). Err x) (one_refusal a t d e is h)) l
 
 -- the state of a test that is loaded is an admitted start state
 pub admitted_start : (a : Admission) (t : Test) (s : Kept) → IsLoadable a t × (pure_of s ≡ start_of a t) → IsStart (pure_of s) → IsAdmittedStart a (pure_of s)
@@ -135,6 +144,6 @@ admitted_start a t s l start = subst (IsAdmittedStart a) (sym l.1) (record {
   admitted = l.0.admitted;
 })
 
-pub admitted_ok : (a : Admission) (t : Test) (r : Result Kept LoadRefusal) → Loads a t r → IfOk r (λ s. IsStart (pure_of s)) → IfOk r (λ s. IsAdmittedStart a (pure_of s))
+pub admitted_ok : (a : Admission) (t : Test) (r : Result Kept LoadRefusal) → Answers Memory (LoadsAs a t) (IsRefused a t) r → IfOk r (λ s. IsStart (pure_of s)) → IfOk r (λ s. IsAdmittedStart a (pure_of s))
 admitted_ok a t (Ok s) l start = admitted_start a t s l start
 admitted_ok a t (Err e) l start = tt

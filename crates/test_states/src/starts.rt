@@ -1,11 +1,12 @@
 //! Start states of tests.
-ghost use Rattle.std.specs.Prelude.{◌≡◌, ◌+◌, ◌^◌, ◌<◌, ◌≤◌, ℕ, Err, IfOk, slice_index};
+ghost use Rattle.std.specs.Prelude.{◌≡◌, ◌+◌, ◌^◌, ◌<◌, ◌≤◌, ℕ, Err, IfErr, IfOk, slice_index};
+ghost use Rattle.outcomes.specs.Answering.{Answers, Gives};
 ghost use Rattle.machine.specs.Kept.{pure_of};
 ghost use Rattle.machine.specs.Machine.{IsStart};
 ghost use Rattle.admission.specs.Admitted.{IsAdmitted, regions_of};
 ghost use Rattle.admission.specs.WellFormed.{IsWellFormed};
 ghost use Rattle.admitted_starts.specs.AdmittedStarts.{IsAdmittedStart};
-ghost use Rattle.test_states.specs.Loads.{GivesRefusal, GivesState, IsRefused, Loads};
+ghost use Rattle.test_states.specs.Loads.{IsRefused, LoadsAs};
 ghost use Rattle.test_states.specs.Ranges.{AreApart, in_either, is_covered};
 ghost use Rattle.test_states.specs.Starts.{IsInRegion, IsLoadable, IsNamed, start_of};
 ghost use Rattle.test_states.specs.declared.refusal.LoadRefusal.{LoadRefusal};
@@ -78,7 +79,8 @@ fn start_state(
 // The start state of a test, or the first reason for which it has none.
 fn loaded(alloc: Global, admission: &Admission, test: &Test) -> Result<State, LoadRefusal>
     requires { IsWellFormed admission.now }
-    ensures exact { Loads admission.now test.now result }
+    ensures exact { Answers LoadRefusal.Memory (LoadsAs admission.now test.now)
+        (IsRefused admission.now test.now) result }
     ensures start { IfOk result (λ state. IsStart (pure_of state)) }
     ensures not_admitted { IsRefused admission.now test.now LoadRefusal.NotAdmitted
         → result ≡ Err LoadRefusal.NotAdmitted }
@@ -104,12 +106,14 @@ pub fn load(alloc: Global, admission: &Admission, test: &Test) -> Result<State, 
     requires { IsWellFormed admission.now }
 
     // What is answered is so ..
-    ensures exact { Loads admission.now test.now result }
+    ensures exact { Answers LoadRefusal.Memory (LoadsAs admission.now test.now)
+        (IsRefused admission.now test.now) result }
     ensures admitted { IfOk result (λ state. IsAdmittedStart admission.now (pure_of state)) }
 
     // .. and what is so is answered.
-    ensures loaded { IsLoadable admission.now test.now → GivesState result }
-    ensures refused { (e : LoadRefusal) → IsRefused admission.now test.now e → GivesRefusal e result }
+    ensures loaded { IsLoadable admission.now test.now → IfErr result (λ e. e ≡ LoadRefusal.Memory) }
+    ensures refused { (e : LoadRefusal) → IsRefused admission.now test.now e
+        → Gives LoadRefusal.Memory result (Err e) }
 
     // Registers that are not admitted are refused before any memory is wanted.
     ensures not_admitted { IsRefused admission.now test.now LoadRefusal.NotAdmitted

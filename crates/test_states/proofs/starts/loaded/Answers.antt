@@ -1,4 +1,4 @@
-use Rattle.std.proofs.Common.{ℕ, List, None, sym, ◌∙◌, ap, rules}
+use Rattle.std.proofs.Common.{ℕ, inr, List, None, sym, ◌∙◌, ap, rules}
 use Rattle.admission.specs.Admitted.{IsAdmitted}
 use Rattle.test_states.specs.Choosing.{least_outside}
 use Rattle.test_states.proofs.Loading.{all_inside, first_outside, is_small}
@@ -6,7 +6,8 @@ use Rattle.test_states.proofs.starts.loaded.Goals as goal
 
 pub returns-in-Some-clause-exact : goal.returns-in-Some-clause-exact
 returns-in-Some-clause-exact c =
-    let admitted : IsAdmitted c.args.admission.now c.args.test.now.regs = search rules in (
+    let admitted : IsAdmitted c.args.admission.now c.args.test.now.regs = search rules in
+    inr (
       admitted,
       is_small c.args.admission.now c.args.test.now c.deref.result.now (c.deref.ensures.value ∙ c.in_ok-regions.ensures) (sym c.is_large.ensures ∙ c.if-is_large.false),
       first_outside c.args.admission.now c.args.test.now c.deref-2.result.now (c.deref-2.ensures.value ∙ c.in_ok-regions.ensures) c.in-Some.at

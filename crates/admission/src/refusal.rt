@@ -22,7 +22,7 @@ pub enum AdmitRefusal {
 }
 
 impl From<Memory> for AdmitRefusal {
-    ghost use Rattle.admission_text.specs.declared.refusal.AdmitRefusal.TheVariants as refusals;
+    ghost use Rattle.admission.specs.declared.refusal.AdmitRefusal.TheVariants as refusals;
 
     ghost from_gives = { λ _ e. e ≡ refusals.Memory };
 
