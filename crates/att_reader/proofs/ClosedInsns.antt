@@ -6,7 +6,7 @@ use Rattle.insn_table.specs.declared.insn.Operand.{Operand}
 use Rattle.insn_table.specs.declared.insn.Operand.TheVariants.{Reg, Vec, Nothing}
 use Rattle.insn_table.specs.declared.insn.Insn.{Insn}
 use Rattle.insn_table.specs.declared.fitting.Misfit.TheVariants as misfits
-use Rattle.insn_table.specs.Classes.{Form, numbers_fit}
+use Rattle.insn_table.specs.Classes.{OperandForm, numbers_fit}
 use Rattle.insn_table.specs.Forms.{chosen, is_shift, is_lone, counted_once, completed, insn_of, found_form, judged_by}
 use Rattle.insn_table.specs.Table.{IsScale, HasRegisters, IsTableInsn}
 use Rattle.insn_table.specs.Closed.{IsInside}
@@ -87,7 +87,7 @@ completed-right : (n : ℕ) (op : Op) (os : List Operand) → AllByRecursion (Is
 completed-right n op os all =
     elim (is_shift op && is_lone os) as (λ (t : Bool). AllByRecursion (IsClosedOperand n) (cond t (counted_once os) os)) [ true ↦ counted-right n os all | false ↦ all ]
 
-judged_same : (found : Option Form) (made i : Insn) → judged_by found made ≡ Ok i → made ≡ i
+judged_same : (found : Option OperandForm) (made i : Insn) → judged_by found made ≡ Ok i → made ≡ i
 judged_same None made i h = cc
 judged_same (Some form) made i h =
     elim (numbers_fit made.args form) as (λ (t : Bool). cond t (Ok made) (Err misfits.BadNumber) ≡ Ok i → made ≡ i) [ true ↦ λ e. cc | false ↦ λ e. cc ] h

@@ -8,7 +8,7 @@ use Rattle.std.proofs.lemmas.Option.{same_Some}
 use Rattle.insn_ops.specs.declared.op.Op.{Op}
 use Rattle.insn_ops.specs.declared.op.Op.TheVariants as ops
 use Rattle.insn_table.proofs.TableInsns.{fitted-made}
-use Rattle.insn_table.specs.Classes.{Form, is_memory, is_nothing, number_fits, numbers_fit, takes, takes_kind, two}
+use Rattle.insn_table.specs.Classes.{OperandForm, is_memory, is_nothing, number_fits, numbers_fit, takes, takes_kind, two}
 use Rattle.insn_table.specs.Forms.{chosen, completed, counted_once, fits_of, forms, found_form, general_forms, insn_of, insn_with, is_lone, is_quadword_move, is_shift, is_vector, judged_by, register_width, told_width, vector_register_width, widest, width_of}
 use Rattle.insn_spellings.specs.Rows.{general}
 use Rattle.insn_table.specs.VectorForms.{computed, exchanged, extracted, forms_at, is_vector_width, joined, lane_form, move_forms, moved_quadword, shifted, shuffled}
@@ -32,10 +32,10 @@ use Rattle.att_round_trip.proofs.Written.{IsOfWidth, IsSameKind, is_single}
 
 -- the classes of forms have the widths of the forms
 
-abbrev AreOfWidth : ℕ → Form → Type 0
+abbrev AreOfWidth : ℕ → OperandForm → Type 0
 AreOfWidth w form = AllByRecursion (IsOfWidth w) form
 
-where_so : (t : Bool) (w : ℕ) (forms : List Form) → (t ≡ true → AllByRecursion (AreOfWidth w) forms) → AllByRecursion (AreOfWidth w) (cond t forms [])
+where_so : (t : Bool) (w : ℕ) (forms : List OperandForm) → (t ≡ true → AllByRecursion (AreOfWidth w) forms) → AllByRecursion (AreOfWidth w) (cond t forms [])
 where_so true w forms h = h refl
 where_so false w forms h = tt
 
@@ -132,7 +132,7 @@ find-same p q (x ∷ xs) agree = ap (λ (t : Bool). cond t (Some x) (find p xs))
 abbrev pub AreSameKinds : ℕ → List Operand → List Operand → Type 0
 AreSameKinds w xs ys = AllZip (IsSameKind w) xs ys
 
-kinds-taken : (w : ℕ) (form : Form) (xs ys : List Operand) → AreSameKinds w xs ys → pointwise takes_kind form ys ≡ pointwise takes_kind form xs
+kinds-taken : (w : ℕ) (form : OperandForm) (xs ys : List Operand) → AreSameKinds w xs ys → pointwise takes_kind form ys ≡ pointwise takes_kind form xs
 kinds-taken w [] [] [] same = refl
 kinds-taken w [] (a ∷ xs) (b ∷ ys) same = refl
 kinds-taken w (c ∷ form) [] [] same = refl
@@ -149,12 +149,12 @@ memory-counted w (a ∷ xs) (b ∷ ys) same =
 memory-counted w [] (b ∷ ys) same = absurd same
 memory-counted w (a ∷ xs) [] same = absurd same
 
-takes-same : (w : ℕ) (xs ys : List Operand) → AreSameKinds w xs ys → (form : Form) → takes ys form ≡ takes xs form
+takes-same : (w : ℕ) (xs ys : List Operand) → AreSameKinds w xs ys → (form : OperandForm) → takes ys form ≡ takes xs form
 takes-same w xs ys same form =
     ap (λ (t : Bool). t && nat_le (count_by is_memory ys) 1) (kinds-taken w form xs ys same)
     ∙ ap (λ (n : ℕ). pointwise takes_kind form xs && nat_le n 1) (memory-counted w xs ys same)
 
-numbers-kept : (w : ℕ) (form : Form) (xs ys : List Operand) → AreSameKinds w xs ys → AreOfWidth w form → numbers_fit xs form ≡ true → numbers_fit ys form ≡ true
+numbers-kept : (w : ℕ) (form : OperandForm) (xs ys : List Operand) → AreSameKinds w xs ys → AreOfWidth w form → numbers_fit xs form ≡ true → numbers_fit ys form ≡ true
 numbers-kept w [] [] [] same of h = refl
 numbers-kept w [] (a ∷ xs) (b ∷ ys) same of h = cc
 numbers-kept w (c ∷ form) [] [] same of h = cc
@@ -218,8 +218,8 @@ width-at w k (a ∷ xs) [] same = absurd same
 abbrev pub with_operands : Insn → List Operand → ℕ → Insn
 with_operands i args line = record { op = i.op; w = i.w; vex = i.vex; args = args; line = line }
 
-judged-kept : (found : Option Form) (form : Form) (j : Insn) → found ≡ Some form → numbers_fit j.args form ≡ true → judged_by found j ≡ Ok j
-judged-kept found form j is fit = ap (λ (o : Option Form). judged_by o j) is ∙ ap (λ (t : Bool). cond t (Ok j) (Err BadNumber)) fit
+judged-kept : (found : Option OperandForm) (form : OperandForm) (j : Insn) → found ≡ Some form → numbers_fit j.args form ≡ true → judged_by found j ≡ Ok j
+judged-kept found form j is fit = ap (λ (o : Option OperandForm). judged_by o j) is ∙ ap (λ (t : Bool). cond t (Ok j) (Err BadNumber)) fit
 
 vectors-same : (w : ℕ) (xs ys : List Operand) → AreSameKinds w xs ys → list_any is_vector ys ≡ list_any is_vector xs
 vectors-same w [] [] same = refl

@@ -14,7 +14,7 @@ use Rattle.insn_table.specs.declared.fitting.Misfit.{Misfit}
 use Rattle.insn_table.specs.declared.fitting.Misfit.TheVariants as misfits
 use Rattle.insn_spellings.specs.Rows.{named}
 use Rattle.insn_spellings.specs.Spellings.{table_rows}
-use Rattle.insn_table.specs.Classes.{Form, numbers_fit}
+use Rattle.insn_table.specs.Classes.{OperandForm, numbers_fit}
 use Rattle.insn_table.specs.Forms.{fits_of, found_form, judged_by, insn_of}
 use Rattle.text_lines.specs.Bytes.{is_blank}
 use Rattle.text_lines.specs.Words.{is_solid, prefix_of, behind_prefix, trim, IsPadded, HasWord}
@@ -119,7 +119,7 @@ fit-alike : (b : Bool) (i j : Insn) (misfit : Misfit) → cond b (Ok i) (Err mis
 fit-alike true i j misfit h = cc
 fit-alike false i j misfit h = h
 
-judged-alike : (form : Option Form) (i j : Insn) (misfit : Misfit) → i.args ≡ j.args → judged_by form i ≡ Err misfit → judged_by form j ≡ Err misfit
+judged-alike : (form : Option OperandForm) (i j : Insn) (misfit : Misfit) → i.args ≡ j.args → judged_by form i ≡ Err misfit → judged_by form j ≡ Err misfit
 judged-alike None i j misfit same h = h
 judged-alike (Some form) i j misfit same h =
     fit-alike (numbers_fit j.args form) i j misfit

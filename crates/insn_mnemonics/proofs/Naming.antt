@@ -13,7 +13,7 @@ use Rattle.insn_table.specs.declared.insn.Insn.{Insn}
 use Rattle.insn_table.specs.declared.insn.Operand.{Operand}
 use Rattle.insn_table.specs.declared.classes.Class.TheVariants.{Readable, Register}
 use Rattle.insn_spellings.specs.declared.shape.Shape.{Shape}
-use Rattle.insn_table.specs.Classes.{Form, numbers_fit, takes, two}
+use Rattle.insn_table.specs.Classes.{OperandForm, numbers_fit, takes, two}
 use Rattle.insn_table.specs.Forms.{chosen, fits_of, forms, insn_of, insn_with, is_quadword_move, is_vector, told_width, width_of}
 use Rattle.insn_spellings.specs.Rows.{general, named}
 use Rattle.insn_spellings.specs.Spellings.{table_rows}
@@ -368,11 +368,11 @@ wide-written : (w : ℕ) → is_wide w ≡ true → (w == 0) ≡ false
 wide-written w h = by_wide (λ v. (v == 0) ≡ false) w h refl refl refl
 
 -- a move by condition is made again of its width
-move-again : (c : Cond) (w : ℕ) (args : List Operand) (line : ℕ) (form : Form) → is_wide w ≡ true → find (takes args) (forms (ops.Cmov c) false w) ≡ Some form
+move-again : (c : Cond) (w : ℕ) (args : List Operand) (line : ℕ) (form : OperandForm) → is_wide w ≡ true → find (takes args) (forms (ops.Cmov c) false w) ≡ Some form
     → numbers_fit args form ≡ true → fits_of (general (ops.Cmov c) w) args line ≡ Ok (record { op = ops.Cmov c; w = w; vex = false; args = args; line = line })
 move-again c w args line form wide found numbers = rw (wide-written w wide, found, wide, numbers) refl
 
-found_only_wide : (b : Bool) (p : Form → Bool) (form found : Form) → find p (if b then form ∷ [] else []) ≡ Some found → b ≡ true
+found_only_wide : (b : Bool) (p : OperandForm → Bool) (form found : OperandForm) → find p (if b then form ∷ [] else []) ≡ Some found → b ≡ true
 found_only_wide true p form found h = refl
 found_only_wide false p form found h = cc
 
@@ -380,7 +380,7 @@ found_only_wide false p form found h = cc
 unfoldable IsPrinted : Insn → Type 0
 IsPrinted i = (shape : Shape) × (named table_rows (mnemonic i.op i.vex i.w) ≡ Some shape) × (fits_of shape i.args i.line ≡ Ok i)
 
-move-printed : (c : Cond) (w : ℕ) (args : List Operand) (line : ℕ) (form : Form) → find (takes args) (forms (ops.Cmov c) false w) ≡ Some form
+move-printed : (c : Cond) (w : ℕ) (args : List Operand) (line : ℕ) (form : OperandForm) → find (takes args) (forms (ops.Cmov c) false w) ≡ Some form
     → numbers_fit args form ≡ true → IsPrinted (record { op = ops.Cmov c; w = w; vex = false; args = args; line = line })
 unfolding IsPrinted Names
 move-printed c w args line form found numbers =
@@ -389,7 +389,7 @@ move-printed c w args line form found numbers =
 
 -- where the shape is the row's
 kept-printed : (unwritten : Bool) (op : Op) (vex : Bool) (v : ℕ) (i : Insn) → (v == 0) ≡ unwritten → i.op ≡ op → i.vex ≡ vex
-    → ((v == 0) ≡ false → i.w ≡ v) → (form : Form) → has_shape op vex v ≡ true → find (takes i.args) (forms i.op i.vex i.w) ≡ Some form
+    → ((v == 0) ≡ false → i.w ≡ v) → (form : OperandForm) → has_shape op vex v ≡ true → find (takes i.args) (forms i.op i.vex i.w) ≡ Some form
     → numbers_fit i.args form ≡ true → fits_of (record { op = op; w = v; vex = vex }) i.args i.line ≡ Ok i → IsPrinted i
 unfolding IsPrinted
 kept-printed false op vex v i e same_op same_vex width form known found numbers accepted =

@@ -15,7 +15,7 @@ use Rattle.insn_table.specs.declared.insn.Operand.{Operand}
 use Rattle.insn_table.specs.declared.insn.Operand.TheVariants.{Imm, Nothing, Vec}
 use Rattle.insn_table.specs.declared.classes.Class.{Class}
 use Rattle.insn_table.specs.declared.classes.Class.TheVariants.{Register, Writable, Readable, Immediate, Address, VectorRegister, VectorSource, Control, Absent}
-use Rattle.insn_table.specs.Classes.{Form, two, three, takes_kind, takes}
+use Rattle.insn_table.specs.Classes.{OperandForm, two, three, takes_kind, takes}
 use Rattle.insn_table.specs.VectorForms.{copied, exchanged, extracted, moved_quadword, joined, shuffled, move_forms, forms_at, is_vector_width}
 use Rattle.insn_table.specs.Forms.{forms, general_forms}
 use Rattle.insn_spellings.specs.Widths.{is_wide}
@@ -69,7 +69,7 @@ vector-not_writable w v (Vec n u) h k = cc
 vector-not_writable w v _ h k = cc
 
 -- forms with such classes at one place don't both take the same operands
-classes-apart : (k : ℕ) (c d : Class) (form other : Form) (args : List Operand) → slice_get form k ≡ Some c → slice_get other k ≡ Some d → AreApart c d
+classes-apart : (k : ℕ) (c d : Class) (form other : OperandForm) (args : List Operand) → slice_get form k ≡ Some c → slice_get other k ≡ Some d → AreApart c d
     → pointwise takes_kind form args ≡ true → pointwise takes_kind other args ≡ true → ⊥
 unfolding AreApart
 classes-apart k c d [] other args at there apart h g = cc
@@ -82,22 +82,22 @@ classes-apart (suc k) c d (e ∷ form) (f ∷ other) (a ∷ args) at there apart
     classes-apart k c d form other args at there apart (and_parts _ _ h).1 (and_parts _ _ g).1
 
 -- the same, of forms that take operands
-apart-at : (k : ℕ) (c d : Class) (form other : Form) (args : List Operand) → slice_get form k ≡ Some c → slice_get other k ≡ Some d → AreApart c d
+apart-at : (k : ℕ) (c d : Class) (form other : OperandForm) (args : List Operand) → slice_get form k ≡ Some c → slice_get other k ≡ Some d → AreApart c d
     → takes args form ≡ true → takes args other ≡ true → ⊥
 apart-at k c d form other args at there apart h g = classes-apart k c d form other args at there apart (and_parts _ _ h).0 (and_parts _ _ g).0
 
-one_form : (form : Form) (args : List Operand) → count_by (takes args) (form ∷ []) ≤ 1
+one_form : (form : OperandForm) (args : List Operand) → count_by (takes args) (form ∷ []) ≤ 1
 one_form form args = omega (arith, count_by-le-length (takes args) (form ∷ []))
 
-where_so : (b : Bool) (list : List Form) (args : List Operand) → count_by (takes args) list ≤ 1 → count_by (takes args) (if b then list else []) ≤ 1
+where_so : (b : Bool) (list : List OperandForm) (args : List Operand) → count_by (takes args) list ≤ 1 → count_by (takes args) (if b then list else []) ≤ 1
 where_so true list args h = h
 where_so false list args h = omega arith
 
 product-apart : (w : ℕ) (args : List Operand) → count_by (takes args) (general_forms Imul w) ≤ 1
 product-apart w args =
-    let first : Form = two (Readable w) (Register w) in
-    let second : Form = two (Immediate w) (Register w) in
-    let third : Form = three (Immediate w) (Readable w) (Register w) in
+    let first : OperandForm = two (Readable w) (Register w) in
+    let second : OperandForm = two (Immediate w) (Register w) in
+    let third : OperandForm = three (Immediate w) (Readable w) (Register w) in
     one_of_three (takes args first) (takes args second) (takes args third)
     (apart-at 0 (Readable w) (Immediate w) first second args refl refl (readable-no_number w w))
     (apart-at 0 (Readable w) (Immediate w) first third args refl refl (readable-no_number w w))
@@ -110,23 +110,23 @@ general-apart op w args = omega (arith, count_by-le-length (takes args) (general
 
 copied-apart : (w : ℕ) (args : List Operand) → count_by (takes args) (copied w) ≤ 1
 copied-apart w args =
-    let load : Form = two (VectorSource w) (VectorRegister w) in
-    let store : Form = two (VectorRegister w) Address in
+    let load : OperandForm = two (VectorSource w) (VectorRegister w) in
+    let store : OperandForm = two (VectorRegister w) Address in
     one_of_two (takes args load) (takes args store)
     (apart-at 1 (VectorRegister w) Address load store args refl refl (vector-no_address w))
 
 exchanged-apart : (v : ℕ) (args : List Operand) → count_by (takes args) (exchanged v) ≤ 1
 exchanged-apart v args =
-    let load : Form = two (Readable v) (VectorRegister 128) in
-    let store : Form = two (VectorRegister 128) (Writable v) in
+    let load : OperandForm = two (Readable v) (VectorRegister 128) in
+    let store : OperandForm = two (VectorRegister 128) (Writable v) in
     one_of_two (takes args load) (takes args store)
     (apart-at 0 (Readable v) (VectorRegister 128) load store args refl refl (readable-no_vector v 128))
 
 quadword-apart : (args : List Operand) → count_by (takes args) moved_quadword ≤ 1
 quadword-apart args =
-    let copy : Form = two (VectorRegister 128) (VectorRegister 128) in
-    let load : Form = two (Readable 64) (VectorRegister 128) in
-    let store : Form = two (VectorRegister 128) (Writable 64) in
+    let copy : OperandForm = two (VectorRegister 128) (VectorRegister 128) in
+    let load : OperandForm = two (Readable 64) (VectorRegister 128) in
+    let store : OperandForm = two (VectorRegister 128) (Writable 64) in
     one_of_three (takes args copy) (takes args load) (takes args store)
     (apart-at 0 (VectorRegister 128) (Readable 64) copy load args refl refl (vector-no_readable 64 128))
     (apart-at 1 (VectorRegister 128) (Writable 64) copy store args refl refl (vector-not_writable 64 128))
@@ -134,8 +134,8 @@ quadword-apart args =
 
 extracted-apart : (args : List Operand) → count_by (takes args) extracted ≤ 1
 extracted-apart args =
-    let kept : Form = three Control (VectorRegister 256) (VectorRegister 128) in
-    let store : Form = three Control (VectorRegister 256) Address in
+    let kept : OperandForm = three Control (VectorRegister 256) (VectorRegister 128) in
+    let store : OperandForm = three Control (VectorRegister 256) Address in
     one_of_two (takes args kept) (takes args store)
     (apart-at 2 (VectorRegister 128) Address kept store args refl refl (vector-no_address 128))
 

@@ -9,7 +9,7 @@ use Rattle.insn_spellings.specs.declared.shape.Shape.{Shape}
 use Rattle.insn_table.specs.declared.fitting.Misfit.{Misfit}
 use Rattle.insn_table.specs.declared.fitting.Misfit.TheVariants.{BadOperand, BadNumber}
 use Rattle.insn_spellings.specs.Widths.{is_shape}
-use Rattle.insn_table.specs.Classes.{Form, takes}
+use Rattle.insn_table.specs.Classes.{OperandForm, takes}
 use Rattle.insn_table.specs.Forms.{forms, insn_of, found_form, judged_by, fits_of, HasForm}
 
 -- none is found where none passes, and one is found where one passes
@@ -26,7 +26,7 @@ found-no_bad_operand true i h = cc
 found-no_bad_operand false i h = cc
 
 -- no form was found where the shape has no mnemonic, or no form takes the operands
-not_named : (b : Bool) (found : Option Form) → (if b then found else None) ≡ None → b ≡ true → found ≡ None
+not_named : (b : Bool) (found : Option OperandForm) → (if b then found else None) ≡ None → b ≡ true → found ≡ None
 not_named true found h b = h
 not_named false found h b = cc
 
@@ -36,16 +36,16 @@ none-any shape i h has =
     find-none (takes i.args) (forms i.op i.vex i.w) (not_named (is_shape shape) _ h has.named) in
     false≢true (sym none ∙ has.taken)
 
-some-named : (b : Bool) (found : Option Form) (form : Form) → (if b then found else None) ≡ Some form → (b ≡ true) × (found ≡ Some form)
+some-named : (b : Bool) (found : Option OperandForm) (form : OperandForm) → (if b then found else None) ≡ Some form → (b ≡ true) × (found ≡ Some form)
 some-named true found form h = (refl, h)
 some-named false found form h = cc
 
-some-has : (shape : Shape) (i : Insn) (form : Form) → found_form shape i ≡ Some form → HasForm shape i
+some-has : (shape : Shape) (i : Insn) (form : OperandForm) → found_form shape i ≡ Some form → HasForm shape i
 some-has shape i form h =
     let found = some-named (is_shape shape) (find (takes i.args) (forms i.op i.vex i.w)) form h in
     record { named = found.0; taken = find-some (takes i.args) (forms i.op i.vex i.w) form found.1 }
 
-bad_operand-found : (shape : Shape) (i : Insn) (found : Option Form) → found ≡ found_form shape i → (judged_by found i ≡ Err BadOperand) ↔ (HasForm shape i → ⊥)
+bad_operand-found : (shape : Shape) (i : Insn) (found : Option OperandForm) → found ≡ found_form shape i → (judged_by found i ≡ Err BadOperand) ↔ (HasForm shape i → ⊥)
 bad_operand-found shape i None e = ((λ h has. none-any shape i (sym e) has), (λ n. refl))
 bad_operand-found shape i (Some form) e = ((λ h. absurd (found-no_bad_operand _ i h)), (λ n. absurd (n (some-has shape i form (sym e)))))
 

@@ -15,7 +15,7 @@ use Rattle.insn_table.specs.declared.fitting.Misfit.TheVariants.{BadNumber}
 use Rattle.insn_spellings.specs.Rows.{general, named}
 use Rattle.insn_spellings.specs.Spellings.{table_rows}
 use Rattle.insn_spellings.specs.Widths.{is_wide, has_suffix, has_shape, is_shape}
-use Rattle.insn_table.specs.Classes.{Form, takes, numbers_fit}
+use Rattle.insn_table.specs.Classes.{OperandForm, takes, numbers_fit}
 use Rattle.insn_table.specs.Forms.{forms, is_shift, is_lone, counted_once, completed, width_of, is_quadword_move, is_vector, chosen, insn_with, insn_of, found_form, judged_by, fits_of}
 use Rattle.insn_table.specs.Table.{HasRegisters, IsTableInsn}
 use Rattle.insn_spellings.proofs.Rows.{rows-named, named-row}
@@ -32,13 +32,13 @@ judged-same true i j h = (cc, refl)
 judged-same false i j h = cc
 
 -- an accepted instruction is the one that is judged, and a form was found for it, which its numbers fit
-pub judged-ok : (found : Option Form) (i j : Insn) → judged_by found i ≡ Ok j
-    → (i ≡ j) × ((form : Form) × (found ≡ Some form) × (numbers_fit i.args form ≡ true))
+pub judged-ok : (found : Option OperandForm) (i j : Insn) → judged_by found i ≡ Ok j
+    → (i ≡ j) × ((form : OperandForm) × (found ≡ Some form) × (numbers_fit i.args form ≡ true))
 judged-ok None i j h = cc
 judged-ok (Some form) i j h =
     let same = judged-same (numbers_fit i.args form) i j h in (same.0, (form, refl, same.1))
 
-found-named : (b : Bool) (found : Option Form) (form : Form) → (if b then found else None) ≡ Some form → (b ≡ true) × (found ≡ Some form)
+found-named : (b : Bool) (found : Option OperandForm) (form : OperandForm) → (if b then found else None) ≡ Some form → (b ≡ true) × (found ≡ Some form)
 found-named true found form h = (refl, h)
 found-named false found form h = cc
 
@@ -46,7 +46,7 @@ found-named false found form h = cc
 pub record IsMade (shape : Shape) (args : List Operand) (line : ℕ) (i : Insn) : Type 0 where
   pub same : insn_of shape args line ≡ i
   pub named : is_shape shape ≡ true
-  pub form : Form
+  pub form : OperandForm
   pub taken : find (takes i.args) (forms i.op i.vex i.w) ≡ Some form
   pub numbers : numbers_fit i.args form ≡ true
 

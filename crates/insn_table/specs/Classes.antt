@@ -8,27 +8,27 @@ use Rattle.insn_table.specs.declared.classes.Class.{Class}
 use Rattle.insn_table.specs.declared.classes.Class.TheVariants.{Register, Writable, Readable, Source, Immediate, Wide, Count, Address, Label, VectorRegister, VectorSource, Control, Absent}
 
 -- the classes of an instruction's four operands
-abbrev pub Form : Type 0
-Form = List Class
+abbrev pub OperandForm : Type 0
+OperandForm = List Class
 
 -- no operands
-abbrev pub none : Form
+abbrev pub none : OperandForm
 none = Absent ∷ Absent ∷ Absent ∷ Absent ∷ []
 
 -- one operand
-abbrev pub one : Class → Form
+abbrev pub one : Class → OperandForm
 one first = first ∷ Absent ∷ Absent ∷ Absent ∷ []
 
 -- two operands
-abbrev pub two : Class → Class → Form
+abbrev pub two : Class → Class → OperandForm
 two first second = first ∷ second ∷ Absent ∷ Absent ∷ []
 
 -- three operands
-abbrev pub three : Class → Class → Class → Form
+abbrev pub three : Class → Class → Class → OperandForm
 three first second third = first ∷ second ∷ third ∷ Absent ∷ []
 
 -- four operands
-abbrev pub four : Class → Class → Class → Class → Form
+abbrev pub four : Class → Class → Class → Class → OperandForm
 four first second third fourth = first ∷ second ∷ third ∷ fourth ∷ []
 
 -- a general register of w bits
@@ -84,7 +84,7 @@ takes_kind Control a = is_number a
 takes_kind Absent a = is_nothing a
 
 -- whether a form takes these kinds of operands, of which no two are in memory
-abbrev pub takes : List Operand → Form → Bool
+abbrev pub takes : List Operand → OperandForm → Bool
 takes args form = pointwise takes_kind form args && nat_le (count_by is_memory args) 1
 
 -- the greatest immediate of a form of w bits
@@ -114,5 +114,5 @@ number_fits class (Imm v) = is_within class v
 number_fits class _ = true
 
 -- whether the numbers of the operands are in the ranges of a form
-abbrev pub numbers_fit : List Operand → Form → Bool
+abbrev pub numbers_fit : List Operand → OperandForm → Bool
 numbers_fit args form = pointwise number_fits form args

@@ -12,14 +12,14 @@ use Rattle.insn_spellings.specs.declared.shape.Shape.{Shape}
 use Rattle.insn_table.specs.declared.classes.Class.TheVariants.{Register, Writable, Readable, Source, Immediate, Wide, Count, Address, Label}
 use Rattle.insn_table.specs.declared.fitting.Misfit.{Misfit}
 use Rattle.insn_table.specs.declared.fitting.Misfit.TheVariants.{BadOperand, BadNumber}
-use Rattle.insn_table.specs.Classes.{Form, none, one, two, three, takes, numbers_fit}
+use Rattle.insn_table.specs.Classes.{OperandForm, none, one, two, three, takes, numbers_fit}
 use Rattle.insn_spellings.specs.Rows.{general}
 use Rattle.insn_table.specs.VectorForms.{vector_forms}
 use Rattle.insn_spellings.specs.Widths.{is_wide, is_shape}
 
 -- The forms of a general operation of w bits. A move by condition has none of 8 bits, nor one of 0 bits: there its suffix
 -- was left out, and its destination is no register.
-abbrev pub general_forms : Op → ℕ → List Form
+abbrev pub general_forms : Op → ℕ → List OperandForm
 general_forms Mov w = two (Source w) (Writable w) ∷ []
 general_forms Movabs w = two Wide (Register w) ∷ []
 general_forms Add w = two (Source w) (Writable w) ∷ []
@@ -54,7 +54,7 @@ general_forms Endbr64 w = none ∷ []
 general_forms (Vector op) w = []
 
 -- the forms of an operation of w bits, with VEX or without
-abbrev pub forms : Op → Bool → ℕ → List Form
+abbrev pub forms : Op → Bool → ℕ → List OperandForm
 forms (Vector op) vex w = vector_forms op vex w
 forms op vex w = general_forms op w
 
@@ -129,11 +129,11 @@ abbrev pub insn_of : Shape → List Operand → ℕ → Insn
 insn_of shape args line = insn_with (chosen shape args) args line
 
 -- the first form that takes the instruction's kinds of operands, where a mnemonic names the shape
-abbrev pub found_form : Shape → Insn → Option Form
+abbrev pub found_form : Shape → Insn → Option OperandForm
 found_form shape i = if is_shape shape then find (takes i.args) (forms i.op i.vex i.w) else None
 
 -- the instruction where this form was found and takes its numbers
-abbrev pub judged_by : Option Form → Insn → Result Insn Misfit
+abbrev pub judged_by : Option OperandForm → Insn → Result Insn Misfit
 judged_by None i = Err BadOperand
 judged_by (Some form) i = if numbers_fit i.args form then Ok i else Err BadNumber
 
@@ -148,6 +148,6 @@ pub record HasForm (shape : Shape) (i : Insn) : Type 0 where
 
 -- the first form that takes the kinds of operands doesn't take the numbers
 pub record HasBadNumber (shape : Shape) (i : Insn) : Type 0 where
-  pub form : Form
+  pub form : OperandForm
   pub first : found_form shape i ≡ Some form
   pub beyond : numbers_fit i.args form ≡ false

@@ -12,15 +12,15 @@ entry_term entry (Some (e, true)) = 2 ^ 64 - slice_index entry e
 entry_term entry (Some (e, false)) = slice_index entry e
 
 -- a*x = b*y + k*e + c modulo 2^64
-abbrev pub Holds : Equation → List ℕ → Visit → Visit → Type 0
-Holds q entry left right =
+abbrev pub EquationHolds : Equation → List ℕ → Visit → Visit → Type 0
+EquationHolds q entry left right =
     (q.a * slice_index left.regs q.x) % 2 ^ 64
     ≡ (q.b * slice_index right.regs q.y + entry_term entry q.e + q.c) % 2 ^ 64
 
 -- the equation of an alignment holds of two visits; without an equation nothing does
 abbrev pub HoldsBy : Option Equation → List ℕ → Visit → Visit → Type 0
 HoldsBy None entry left right = ⊥
-HoldsBy (Some q) entry left right = Holds q entry left right
+HoldsBy (Some q) entry left right = EquationHolds q entry left right
 
 -- visit i of the left trace and visit j of the right one, counted from 1, satisfy the alignment
 pub record Satisfy (alignment : Alignment) (left right : Trace) (i j : ℕ) : Type 0 where
