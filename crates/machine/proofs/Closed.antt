@@ -15,7 +15,7 @@ use Rattle.insn_table.specs.declared.insn.Operand.TheVariants.{Reg, Imm, Mem, Ve
 use Rattle.insn_table.specs.declared.classes.Class.{Class}
 use Rattle.insn_table.specs.declared.classes.Class.TheVariants.{Register, Readable, Writable, Count, Address, Label, Absent}
 use Rattle.insn_spellings.specs.declared.shape.Shape.{Shape}
-use Rattle.insn_table.specs.Classes.{Form, is_target, number_fits, numbers_fit, one, takes, takes_kind, two, is_nothing}
+use Rattle.insn_table.specs.Classes.{OperandForm, is_target, number_fits, numbers_fit, one, takes, takes_kind, two, is_nothing}
 use Rattle.insn_spellings.specs.Rows.{general}
 use Rattle.insn_spellings.specs.Widths.{has_shape, has_suffix, has_width, is_long, is_shape, is_wide, widens_to}
 use Rattle.insn_table.specs.Forms.{forms, chosen, is_quadword_move, is_vector, told_width, width_of}
@@ -111,7 +111,7 @@ named-is v w width (inr e) = e
 width-of_named : (v w : ℕ) → IsWidth v → (v ≡ 0) ⊎ (w ≡ v) → IsWidth w
 width-of_named v w width e = subst IsWidth (sym (named-is v w width e)) width
 
-found_only_wide : (b : Bool) (p : Form → Bool) (form found : Form) → find p (if b then form ∷ [] else []) ≡ Some found → b ≡ true
+found_only_wide : (b : Bool) (p : OperandForm → Bool) (form found : OperandForm) → find p (if b then form ∷ [] else []) ≡ Some found → b ≡ true
 found_only_wide true p form found h = refl
 found_only_wide false p form found h = cc
 
@@ -123,7 +123,7 @@ quad-width : (v : ℕ) → (v == 64) ≡ true → IsWidth v
 quad-width v h = inr (inr (inr ((Decides-eqb v 64).0 h)))
 
 -- An operation of which a form was found has a width.
-form-width : (op : Op) (vex : Bool) (v w : ℕ) (p : Form → Bool) (form : Form) → IsNamed op v w → find p (forms op vex w) ≡ Some form → HasWidth (family_of op) w
+form-width : (op : Op) (vex : Bool) (v w : ℕ) (p : OperandForm → Bool) (form : OperandForm) → IsNamed op v w → find p (forms op vex w) ≡ Some form → HasWidth (family_of op) w
 unfolding IsNamed IsWidened
 form-width (ops.Cmov c) vex v w p form named found = inr (wide-cases w (found_only_wide (is_wide w) p (two (Readable w) (Register w)) form found))
 form-width (ops.Vector op) vex v w p form named found = vector-width op w
@@ -164,23 +164,23 @@ all_at P [] k none each = none
 all_at P (a ∷ args) zero none each = each.0
 all_at P (a ∷ args) (suc k) none each = all_at P args k none each.1
 
-found-by : (b : Bool) (form found : Form) → cond b (Some form) None ≡ Some found → (form ≡ found) × (b ≡ true)
+found-by : (b : Bool) (form found : OperandForm) → cond b (Some form) None ≡ Some found → (form ≡ found) × (b ≡ true)
 found-by true form found h = (cc, refl)
 found-by false form found h = cc
 
 -- an instruction is taken by the one form of its operation, which its numbers fit
-abbrev IsTaken : Form → Insn → Type 0
+abbrev IsTaken : OperandForm → Insn → Type 0
 IsTaken form i = (pointwise takes_kind form i.args ≡ true) × (numbers_fit i.args form ≡ true)
 
-taken-by_one : (i : Insn) (form found : Form) → find (takes i.args) (form ∷ []) ≡ Some found → numbers_fit i.args found ≡ true → IsTaken form i
+taken-by_one : (i : Insn) (form found : OperandForm) → find (takes i.args) (form ∷ []) ≡ Some found → numbers_fit i.args found ≡ true → IsTaken form i
 taken-by_one i form found h fits =
     let it = found-by (takes i.args form) form found h in
-    ((and_parts _ _ it.1).0, subst (λ (x : Form). numbers_fit i.args x ≡ true) (sym it.0) fits)
+    ((and_parts _ _ it.1).0, subst (λ (x : OperandForm). numbers_fit i.args x ≡ true) (sym it.0) fits)
 
-kind_at : (i : Insn) (form : Form) (k : ℕ) (class : Class) → IsTaken form i → slice_get form k ≡ Some class → takes_kind class (operand i k) ≡ true
+kind_at : (i : Insn) (form : OperandForm) (k : ℕ) (class : Class) → IsTaken form i → slice_get form k ≡ Some class → takes_kind class (operand i k) ≡ true
 kind_at i form k class taken there = pointwise_at takes_kind form i.args k class Nothing taken.0 there
 
-number_at : (i : Insn) (form : Form) (k : ℕ) (class : Class) → IsTaken form i → slice_get form k ≡ Some class → number_fits class (operand i k) ≡ true
+number_at : (i : Insn) (form : OperandForm) (k : ℕ) (class : Class) → IsTaken form i → slice_get form k ≡ Some class → number_fits class (operand i k) ≡ true
 number_at i form k class taken there = pointwise_at number_fits form i.args k class Nothing taken.1 there
 
 -- the count of a shift
@@ -247,7 +247,7 @@ widened-to : (m v w : ℕ) → IsWidened m v → (v ≡ 0) ⊎ (w ≡ v) → IsW
 unfolding IsWidened
 widened-to m v w wide e = (wide.0, subst (λ (x : ℕ). m < x) (sym (named-is v w wide.1 e)) wide.2)
 
-table-row : (op : Op) (i : Insn) (v : ℕ) (form : Form) → IsNamed op v i.w → find (takes i.args) (forms op i.vex i.w) ≡ Some form → numbers_fit i.args form ≡ true
+table-row : (op : Op) (i : Insn) (v : ℕ) (form : OperandForm) → IsNamed op v i.w → find (takes i.args) (forms op i.vex i.w) ≡ Some form → numbers_fit i.args form ≡ true
     → HasRowOf op i
 unfolding IsNamed
 table-row ops.Shl i v form named found fits = shift-count i (taken-by_one i (two (Count i.w) (Writable i.w)) form found fits)
@@ -275,7 +275,7 @@ place_inside n Nothing kind inside = absurd (cc)
 jump-inside : (n : ℕ) (i : Insn) → IsTaken (one Label) i → AllByRecursion (IsInside n) i.args → jump_place (operand i 0) < n
 jump-inside n i taken inside = place_inside n (operand i 0) (kind_at i (one Label) 0 Label taken refl) (all_at (IsInside n) i.args 0 tt inside)
 
-table-jump : (n : ℕ) (op : Op) (i : Insn) (form : Form) → find (takes i.args) (forms op i.vex i.w) ≡ Some form → numbers_fit i.args form ≡ true
+table-jump : (n : ℕ) (op : Op) (i : Insn) (form : OperandForm) → find (takes i.args) (forms op i.vex i.w) ≡ Some form → numbers_fit i.args form ≡ true
     → AllByRecursion (IsInside n) i.args → JumpsBelow n op i
 table-jump n (ops.Jump c) i form found fits inside = jump-inside n i (taken-by_one i (one Label) form found fits) inside
 table-jump n ops.Jmp i form found fits inside = jump-inside n i (taken-by_one i (one Label) form found fits) inside

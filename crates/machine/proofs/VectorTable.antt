@@ -12,7 +12,7 @@ use Rattle.insn_ops.specs.declared.vector_op.MoveOp.{MoveOp}
 use Rattle.insn_ops.specs.declared.vector_op.MoveOp.TheVariants as moves
 use Rattle.insn_ops.specs.declared.vector_op.VectorOp.{VectorOp}
 use Rattle.insn_ops.specs.declared.vector_op.VectorOp.TheVariants.{Lanewise, Moving, Vzeroupper}
-use Rattle.insn_table.specs.Classes.{Form}
+use Rattle.insn_table.specs.Classes.{OperandForm}
 use Rattle.insn_spellings.specs.Widths.{has_lanes, has_move, has_vectors, is_byte, is_middle, is_narrow, is_quadword, is_word, widens}
 use Rattle.insn_table.specs.VectorForms.{exchanged, extracted, forms_at, is_vector_width, joined, move_forms, moved_quadword, only_low, only_wide, shuffled, vector_forms}
 use Rattle.lane_semantics.specs.LaneRows.{IsLaneRow}
@@ -118,7 +118,7 @@ quadword-has = tt
 
 -- vectors
 
-found-where : (b : Bool) (p : Form → Bool) (forms : List Form) (form : Form) → find p (if b then forms else []) ≡ Some form → (b ≡ true) × (find p forms ≡ Some form)
+found-where : (b : Bool) (p : OperandForm → Bool) (forms : List OperandForm) (form : OperandForm) → find p (if b then forms else []) ≡ Some form → (b ≡ true) × (find p forms ≡ Some form)
 found-where true p forms form h = (refl, h)
 found-where false p forms form h = cc
 
@@ -128,13 +128,13 @@ width-by vex w h =
     (λ (e : (vex && w == 256) ≡ true). inr ((Decides-eqb w 256).0 (and_parts vex (w == 256) e).1))
     (or_cases (w == 128) (vex && w == 256) h)
 
-low-only : (w : ℕ) (p : Form → Bool) (forms : List Form) (form : Form) → find p (only_low w forms) ≡ Some form → w ≡ 128
+low-only : (w : ℕ) (p : OperandForm → Bool) (forms : List OperandForm) (form : OperandForm) → find p (only_low w forms) ≡ Some form → w ≡ 128
 low-only w p forms form h = (Decides-eqb w 128).0 (found-where (w == 128) p forms form h).0
 
-wide-only : (w : ℕ) (p : Form → Bool) (forms : List Form) (form : Form) → find p (only_wide w forms) ≡ Some form → w ≡ 256
+wide-only : (w : ℕ) (p : OperandForm → Bool) (forms : List OperandForm) (form : OperandForm) → find p (only_wide w forms) ≡ Some form → w ≡ 256
 wide-only w p forms form h = (Decides-eqb w 256).0 (found-where (w == 256) p forms form h).0
 
-move-row : (op : MoveOp) (vex : Bool) (w : ℕ) (p : Form → Bool) (form : Form) → find p (move_forms op vex w) ≡ Some form → IsMoveRow op w
+move-row : (op : MoveOp) (vex : Bool) (w : ℕ) (p : OperandForm → Bool) (form : OperandForm) → find p (move_forms op vex w) ≡ Some form → IsMoveRow op w
 move-row moves.Movd vex w p form h = low-only w p (exchanged 32) form h
 move-row moves.Movq vex w p form h = low-only w p moved_quadword form h
 move-row moves.Extracti128 vex w p form h = wide-only w p extracted form h
@@ -143,7 +143,7 @@ move-row moves.Perm2i128 vex w p form h = wide-only w p (joined 256 ∷ []) form
 move-row moves.Permq vex w p form h = wide-only w p (shuffled 256 ∷ []) form h
 move-row _ vex w p form h = tt
 
-row-at : (op : VectorOp) (vex : Bool) (w : ℕ) (p : Form → Bool) (form : Form) → HasLanes op → IsVectorWidth w → find p (forms_at op vex w) ≡ Some form
+row-at : (op : VectorOp) (vex : Bool) (w : ℕ) (p : OperandForm → Bool) (form : OperandForm) → HasLanes op → IsVectorWidth w → find p (forms_at op vex w) ≡ Some form
     → HasVectorRow op w
 unfolding HasLanes
 row-at (Lanewise op) vex w p form have width h = (width, have)
@@ -152,7 +152,7 @@ row-at Vzeroupper vex w p form have width h = width
 row-at _ vex w p form have width h = (width, tt)
 
 -- an operation with such lanes, of which a form was found, is a row of the table
-pub vector-row : (op : VectorOp) (vex : Bool) (w : ℕ) (p : Form → Bool) (form : Form) → HasLanes op → find p (vector_forms op vex w) ≡ Some form
+pub vector-row : (op : VectorOp) (vex : Bool) (w : ℕ) (p : OperandForm → Bool) (form : OperandForm) → HasLanes op → find p (vector_forms op vex w) ≡ Some form
     → HasVectorRow op w
 vector-row op vex w p form have h =
     let found = found-where (is_vector_width vex w) p (forms_at op vex w) form h in
