@@ -1,0 +1,4 @@
+pub mod Examples
+pub mod Needs
+pub mod Truth
+pub mod Whole
