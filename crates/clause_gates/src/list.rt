@@ -55,6 +55,11 @@ impl ClauseList {
         clauses
     }
 
+    /// The allocator of the clauses.
+    pub fn allocator(&self) -> Global {
+        self.alloc
+    }
+
     /// How many clauses there are.
     pub fn len(&self) -> usize
         ensures { result ≡ length self.now }

@@ -1,0 +1,1 @@
+//! Laws of rows. The functions do nothing; their contracts are the laws.
