@@ -4,7 +4,7 @@ use Rattle.std.specs.List.{range_with_len}
 use Rattle.clauses.specs.declared.clause.Lit.{Lit}
 use Rattle.clause_gates.specs.Gates.{and_gate, choice_gate, copy_gate, majority_gate, negation, not_gate, or_gate, positive, xor_gate}
 use Rattle.clause_words.specs.declared.row.Row.{Row}
-use Rattle.clause_words.specs.declared.row.Row.TheVariants.{Const, And, Or, Xor, Not, If, Shl, Shr, Sar, Cut, Sx, Cat, Sum, Less, SignedLess, Alike, Each}
+use Rattle.clause_words.specs.declared.row.Row.TheVariants.{Const, And, Times, Or, Xor, Not, If, Shl, Shr, Sar, Cut, Sx, Cat, Sum, Less, SignedLess, Alike, Each}
 
 -- bit k of a word whose lowest bit is this variable
 abbrev pub bit : ℕ → ℕ → Lit
@@ -41,6 +41,7 @@ top_exchanged w a b k = if k + 1 == w then b k else a k
 abbrev pub column : Row → ℕ → List (List Lit)
 column (Const r v) k = unit (if v / 2 ^ k % 2 == 1 then bit r k else negation (bit r k))
 column (And r a b) k = and_gate (bit r k) (bit a k) (bit b k)
+column (Times r a b) k = and_gate (bit r k) (bit a k) (bit b 0)
 column (Or r a b) k = or_gate (bit r k) (bit a k) (bit b k)
 column (Xor r a b) k = xor_gate (bit r k) (bit a k ∷ bit b k ∷ [])
 column (Not r a) k = not_gate (bit r k) (bit a k)
@@ -84,6 +85,7 @@ HasRoom w word = word + w ≤ 2 ^ 32
 abbrev pub RowHasRoom : ℕ → Row → Type 0
 RowHasRoom w (Const r v) = (w ≤ 64) × HasRoom w r
 RowHasRoom w (And r a b) = HasRoom w r × HasRoom w a × HasRoom w b
+RowHasRoom w (Times r a b) = HasRoom w r × HasRoom w a × HasRoom 1 b
 RowHasRoom w (Or r a b) = HasRoom w r × HasRoom w a × HasRoom w b
 RowHasRoom w (Xor r a b) = HasRoom w r × HasRoom w a × HasRoom w b
 RowHasRoom w (Not r a) = HasRoom w r × HasRoom w a

@@ -7,6 +7,8 @@
 #![tactic(auto)]
 
 pub mod laws;
+mod product;
 mod row;
 
+pub use product::push_product;
 pub use row::{Row, push_equal, push_row};

@@ -22,6 +22,12 @@ pub enum Row {
         a: u32,
         b: u32,
     },
+    /// Each bit of `a` with the bit `b`.
+    Times {
+        r: u32,
+        a: u32,
+        b: u32,
+    },
     Or {
         r: u32,
         a: u32,
@@ -118,7 +124,7 @@ pub enum Row {
 }
 
 /// Bit `k` of a word.
-fn bit(word: u32, k: u32) -> Lit
+pub(crate) fn bit(word: u32, k: u32) -> Lit
     requires { word + k < 2 ^ 32 }
     ensures { result ≡ bit_of word k }
 {
@@ -180,6 +186,7 @@ fn push_column(list: &mut ClauseList, w: u32, row: &Row, k: u32) -> Result<(), M
     match *row {
         Row::Const { r, v } => push_bit(list, bit(r, k), v, k),
         Row::And { r, a, b } => list.and(bit(r, k), bit(a, k), bit(b, k)),
+        Row::Times { r, a, b } => list.and(bit(r, k), bit(a, k), bit(b, 0)),
         Row::Or { r, a, b } => list.or(bit(r, k), bit(a, k), bit(b, k)),
         Row::Xor { r, a, b } => list.xor(bit(r, k), bit(a, k), bit(b, k)),
         Row::Not { r, a } => list.not(bit(r, k), bit(a, k)),
