@@ -3,7 +3,7 @@ use Rattle.std.proofs.Common.{◌≡◌, ◌↔◌, ℕ, zero, suc, ◌<◌, ◌
 use Rattle.std.proofs.lemmas.Bool.{cases_lt}
 use Rattle.clauses.specs.declared.clause.Lit.{Lit}
 use Rattle.clauses.specs.Assignments.{MeetsAll, literal_value}
-use Rattle.clause_gates.specs.Gates.{and_gate}
+use Rattle.clause_gates.specs.Gates.{and_gate, copy_gate}
 use Rattle.clause_words.specs.Rows.{columns}
 
 module _ (v : ℕ → Bool) where
@@ -32,3 +32,6 @@ module _ (v : ℕ → Bool) where
 
   pub and_says : (r a b : Lit) → MeetsAll v (and_gate r a b) ↔ (literal_value v r ≡ (literal_value v a && literal_value v b))
   and_says r a b = search (rules)
+
+  pub copy_says : (r a : Lit) → MeetsAll v (copy_gate r a) ↔ (literal_value v r ≡ literal_value v a)
+  copy_says r a = search (rules)

@@ -30,3 +30,7 @@ abbrev pub product_row : ℕ → ℕ → ℕ → ℕ → ℕ → List (List Lit)
 product_row w r a b h =
     row_clauses w (Times h a b) ++ (columns (stage_clauses w a b h) (w - 1)
     ++ columns (λ k. copy_gate (bit r k) (positive (sum_start w h k))) w)
+
+-- how many helpers it has
+abbrev pub product_helpers : ℕ → ℕ
+product_helpers w = stage_start w 0 (w - 1)

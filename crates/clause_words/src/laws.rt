@@ -2,6 +2,7 @@
 ghost use Rattle.std.specs.Prelude.{◌≡◌, ◌-◌, ◌<◌, ℕ, Bool};
 ghost use Rattle.insn_semantics.specs.Words as words;
 ghost use Rattle.clause_words.specs.Numbers.{SayWithHelpers, StandsBefore, word_value};
+ghost use Rattle.clause_words.specs.Products.{product_helpers, product_row};
 ghost use Rattle.clause_words.specs.Rows.{equal_row, row_clauses};
 ghost use Rattle.clause_words.specs.declared.row.Row.TheVariants.{Less, SignedLess, Sum};
 
@@ -36,4 +37,12 @@ pub fn equalities()
         → StandsBefore alike 1 r → StandsBefore alike w a → StandsBefore alike w b
         → SayWithHelpers v alike w (equal_row w r a b alike)
         (word_value v 1 r ≡ words.equal (word_value v w a) (word_value v w b)) }
+{}
+
+/// For some values of its helpers, and for one alone, the row of a product is met exactly where the number of the
+/// result is the product modulo 2^w.
+pub fn products()
+    ensures { (v : ℕ → Bool) (w r a b h : ℕ) → 0 < w → StandsBefore h w r → StandsBefore h w a → StandsBefore h w b
+        → SayWithHelpers v h (product_helpers w) (product_row w r a b h)
+        (word_value v w r ≡ words.times w (word_value v w a) (word_value v w b)) }
 {}
