@@ -1,0 +1,9 @@
+pub mod DifferenceNodes
+pub mod Exponents
+pub mod Growing
+pub mod Least
+pub mod Merging
+pub mod Refusals
+pub mod SumLoops
+pub mod Terms
+pub mod TermSums
