@@ -1,6 +1,6 @@
 //! Flow graphs.
 ghost use Rattle.std.specs.Prelude.{◌≡◌, ◌↔◌, ◌<◌, Contains, IsTrue, Option, Some, None, slice_get, length};
-ghost use Rattle.flow_graph.specs.Flows.{FitsBefore, IsCut, IsHead, IsPath, ListsInOrder};
+ghost use Rattle.flow_graph.specs.Flows.{FitsBefore, Follows, IsCut, IsHead, IsPath, ListsInOrder};
 
 use crate::control::Flow;
 use std::marker::Model;
@@ -52,6 +52,27 @@ impl Graph {
         ensures { IsTrue result ↔ IsHead self.now place }
     {
         is_listed(self.heads(), place)
+    }
+
+    /// Whether there is an instruction at the place.
+    pub fn has_place(&self, place: u32) -> bool
+        ensures { IsTrue result ↔ (place < length self.now) }
+    {
+        (place as usize) < self.flows.len()
+    }
+
+    /// Whether control may go so from one place to another.
+    pub fn follows(&self, from: u32, to: u32) -> bool
+        ensures { IsTrue result ↔ Follows self.now from to }
+    {
+        fits_before(&self.flows, from, Some(to))
+    }
+
+    /// Whether the instruction at the place returns.
+    pub fn returns_at(&self, place: u32) -> bool
+        ensures { IsTrue result ↔ (slice_get self.now place ≡ Some Flow.Return) }
+    {
+        matches!(self.flows.get(place as usize), Some(Flow::Return))
     }
 
     /// Whether each of the places is an instruction, and each but the first follows the one before it

@@ -1,3 +1,5 @@
 pub mod Bounds
 pub mod Cycles
+pub mod Places
 pub mod Ranks
+pub mod Rules

@@ -13,10 +13,14 @@
 #![tactic(auto)]
 
 mod chains;
+mod invariants;
 mod laws;
+mod paths;
 mod product;
 mod ranks;
+mod rules;
 
 pub use chains::compose;
 pub use laws::cycle_law;
 pub use product::{Atom, Bound1, Invariant, PEdge, PNode, Product};
+pub use rules::{Breach, Rule};
