@@ -1,6 +1,8 @@
 -- There is one first breach at most, and none where every rule is kept; first places from first numbers.
-use Rattle.std.proofs.Common.{◌≡◌, inl, inr, ℕ, ◌<◌, List, [], ◌∷◌, ◌++◌, sym, subst, arith}
+use Rattle.std.proofs.Common.{◌≡◌, inl, inr, ℕ, suc, ◌<◌, List, [], ◌∷◌, ◌++◌, length, take, drop, get_or, refl, sym, ◌∙◌, ap, subst, arith}
 use Rattle.std.specs.List.{AllByRecursion}
+use Rattle.std.proofs.lemmas.List.{take-append-drop}
+use Rattle.std.proofs.Math.Seq.{drop-cons}
 use Rattle.first_breaches.specs.Breaches.{IsBefore, IsFirstBreach, IsFirstNumber, IsFirstPlace, Place}
 
 -- two places of which neither comes before the other are one
@@ -48,3 +50,30 @@ first_place-at IsKept number second below first = record {
     | inr same ↦ subst (λ (m : ℕ). IsKept (m, k)) (sym same.0) (first.before k same.1)
   ];
 }
+
+module _ {Rule : Type 0} (Keeps : Rule → Place → Type 0) where
+  -- the first rule is broken
+  pub first_breach-here : (rule : Rule) (later : List Rule) (place : Place) → IsFirstPlace (Keeps rule) place → IsFirstBreach (rule ∷ later) Keeps rule place
+  first_breach-here rule later place first = record { earlier = []; later = later; in_order = refl; kept = tt; first = first }
+
+  -- the first rule is kept, and a later one is broken
+  pub first_breach-later : (kept_one : Rule) (later : List Rule) (rule : Rule) (place : Place) → ((at : Place) → Keeps kept_one at) → IsFirstBreach later Keeps rule place
+      → IsFirstBreach (kept_one ∷ later) Keeps rule place
+  first_breach-later kept_one later rule place kept h = record {
+    earlier = kept_one ∷ h.earlier;
+    later = h.later;
+    in_order = ap (λ (rs : List Rule). kept_one ∷ rs) h.in_order;
+    kept = (kept, h.kept);
+    first = h.first;
+  }
+
+  -- the rules before this one are kept, and it is broken
+  pub first_breach-at : (order : List Rule) (i : ℕ) (d : Rule) (place : Place) → i < length order → AllByRecursion (λ other. (at : Place) → Keeps other at) (take i order)
+      → IsFirstPlace (Keeps (get_or order i d)) place → IsFirstBreach order Keeps (get_or order i d) place
+  first_breach-at order i d place less kept first = record {
+    earlier = take i order;
+    later = drop (suc i) order;
+    in_order = sym (take-append-drop i order) ∙ ap (λ (rs : List Rule). take i order ++ rs) (drop-cons order i d less);
+    kept = kept;
+    first = first;
+  }

@@ -1,2 +1,3 @@
+pub mod Breaching
 pub mod Cycling
 pub mod Joining

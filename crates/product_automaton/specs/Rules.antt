@@ -139,12 +139,20 @@ number_of Falls = 4
 number_of Ranks = 5
 number_of Invariants = 6
 
+-- the rules after that on sizes, in the order in which they are tried
+abbrev pub later_rules : List Rule
+later_rules = Places ∷ Paths ∷ Falls ∷ Ranks ∷ Invariants ∷ []
+
 -- the rules in the order in which they are tried
 abbrev pub rule_order : List Rule
-rule_order = Sizes ∷ Places ∷ Paths ∷ Falls ∷ Ranks ∷ Invariants ∷ []
+rule_order = Sizes ∷ later_rules
 
--- the first breach of the rules
-pub record IsProductBreach (p : Product) (left right : List Flow) (breach : Breach) : Type 0 where
+-- the first breach of these rules in order
+pub record IsBreachAmong (rules : List Rule) (p : Product) (left right : List Flow) (breach : Breach) : Type 0 where
   pub rule : Rule
   pub number : breach.rule ≡ number_of rule
-  pub first : IsFirstBreach rule_order (Keeps p left right) rule breach.place
+  pub first : IsFirstBreach rules (Keeps p left right) rule breach.place
+
+-- the first breach of the rules
+abbrev pub IsProductBreach : Product → (left right : List Flow) → Breach → Type 0
+IsProductBreach p left right breach = IsBreachAmong rule_order p left right breach

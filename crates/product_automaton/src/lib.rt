@@ -19,6 +19,7 @@ mod paths;
 mod product;
 mod ranks;
 mod rules;
+mod well_formed;
 
 pub use chains::compose;
 pub use laws::cycle_law;

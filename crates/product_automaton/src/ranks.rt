@@ -1,6 +1,7 @@
 //! The longest path of a product, its bound, and whether its ranks fall.
 ghost use Rattle.std.specs.Prelude.{◌≡◌, ◌↔◌, ◌^◌, ◌<◌, List, length, IsTrue};
 ghost use Rattle.product_automaton.specs.Ranks.{HasLowRanks, LowersRanks, RanksFall, bound_of, left_rank, longest_path, right_rank};
+ghost use Rattle.product_automaton.specs.Rules.{KeepsFalls};
 
 use crate::product::{PEdge, PNode, Product};
 
@@ -39,7 +40,7 @@ impl Product {
 }
 
 /// Whether both ranks of the node are below the limit.
-fn has_low_ranks(node: &PNode, limit: usize) -> bool
+pub(crate) fn has_low_ranks(node: &PNode, limit: usize) -> bool
     ensures { IsTrue result ↔ HasLowRanks limit node.now }
 {
     (node.rank_left as usize) < limit && (node.rank_right as usize) < limit
@@ -49,8 +50,14 @@ fn has_low_ranks(node: &PNode, limit: usize) -> bool
 fn lowers(edge: &PEdge, nodes: &[PNode]) -> bool
     ensures { IsTrue result ↔ LowersRanks nodes.now edge.now }
 {
-    (edge.to as usize) < nodes.len()
-        && (!edge.left.is_empty() || left_rank(nodes, edge.to) < left_rank(nodes, edge.from))
+    (edge.to as usize) < nodes.len() && keeps_falls(edge, nodes)
+}
+
+/// Whether the edge lowers the rank of each side on which its path is empty.
+pub(crate) fn keeps_falls(edge: &PEdge, nodes: &[PNode]) -> bool
+    ensures { IsTrue result ↔ KeepsFalls nodes.now edge.now }
+{
+    (!edge.left.is_empty() || left_rank(nodes, edge.to) < left_rank(nodes, edge.from))
         && (!edge.right.is_empty() || right_rank(nodes, edge.to) < right_rank(nodes, edge.from))
 }
 

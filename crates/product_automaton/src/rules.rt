@@ -33,6 +33,16 @@ impl Rule {
             Rule::Invariants => 6,
         }
     }
+
+    /// A breach of the rule at this place.
+    pub(crate) fn at(self, place: (u32, u32)) -> Breach
+        ensures { result ≡ record { rule = number_of self; place = place } }
+    {
+        Breach {
+            rule: self.number(),
+            place,
+        }
+    }
 }
 
 /// A rule that is broken, by its number, and the place at which it is: numbers of nodes and edges, of sides
