@@ -4,7 +4,7 @@ use Rattle.std.proofs.lemmas.List.Elements.{All-tail}
 use Rattle.std.proofs.lemmas.Nat.{mul-le}
 use Rattle.std.proofs.lemmas.Grind.{pow_more}
 use Rattle.std.proofs.Math.Nat.{pow-le-pow_right}
-use Rattle.product_automaton.specs.Bounds.{composed_bound, joined_bound}
+use Rattle.product_automaton.specs.ChainBounds.{composed_bound, joined_bound}
 
 -- Some of seven bounds are joined, and the rest are to come. The join is below the product of as many numbers 32,769.
 pub record IsComposedSoFar (bound : ℕ) (rest ks : List ℕ) : Type 0 where

@@ -1,4 +1,4 @@
-pub mod Bounds
+pub mod ChainBounds
 pub mod Cycles
 pub mod Places
 pub mod Ranks

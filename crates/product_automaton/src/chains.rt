@@ -1,6 +1,6 @@
 //! The bound of a chain of functions, each equivalent to the next.
 ghost use Rattle.std.specs.Prelude.{◌≡◌, ◌^◌, ◌<◌, ◌≤◌, All, length};
-ghost use Rattle.product_automaton.specs.Bounds.{composed_bound, joined_bound};
+ghost use Rattle.product_automaton.specs.ChainBounds.{composed_bound, joined_bound};
 
 /// The bound of a chain, from the bounds of its links in order: one to seven, each at most 32,768.
 ///

@@ -5,7 +5,7 @@ use Rattle.runs.specs.Equivalent.{AreEquivalent, Follows}
 use Rattle.runs.specs.Run.{Run, Step, run_of}
 use Rattle.runs.specs.declared.ends.RunEnd.TheVariants.{Returned, Faulted}
 use Rattle.runs.proofs.Runs.{faulted_stays, returned_stays, run_by_end}
-use Rattle.product_automaton.specs.Bounds.{composed_bound, joined_bound}
+use Rattle.product_automaton.specs.ChainBounds.{composed_bound, joined_bound}
 use Rattle.product_simulation.specs.Chains.{AreLinked, Link, bounds_of, last_of}
 
 -- the steps of two links, one after the other, are within the joined bound on either side

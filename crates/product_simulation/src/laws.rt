@@ -6,7 +6,7 @@ ghost use Rattle.runs.specs.Path.{Fell, way};
 ghost use Rattle.runs.specs.Run.{Step};
 ghost use Rattle.product_automaton.specs.declared.product.PEdge.{PEdge};
 ghost use Rattle.product_automaton.specs.declared.product.Product.{Product};
-ghost use Rattle.product_automaton.specs.Bounds.{composed_bound, joined_bound};
+ghost use Rattle.product_automaton.specs.ChainBounds.{composed_bound, joined_bound};
 ghost use Rattle.product_automaton.specs.Ranks.{RanksFall, bound_of};
 ghost use Rattle.product_simulation.specs.Chains.{AreLinked, Link, bounds_of, last_of};
 ghost use Rattle.product_simulation.specs.Leads.{IsWayOn, left_next, right_next};

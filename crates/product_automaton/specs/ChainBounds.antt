@@ -1,4 +1,4 @@
--- The bounds of chains.
+-- The bounds of chains. (That of one product stands in Ranks.)
 use Rattle.std.specs.Prelude.{ℕ, ◌+◌, ◌*◌, List, fold, max}
 
 -- the bound of two links in turn
