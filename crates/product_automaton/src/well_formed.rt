@@ -2,6 +2,7 @@
 ghost use Rattle.std.specs.Prelude.{◌≡◌, ◌≢◌, ◌↔◌, ℕ, ◌<◌, ◌≤◌, IfSome, IsOk, IsTrue, MatchOption, Err, None, Some, if◌then◌else◌, length, slice_get};
 ghost use Rattle.std.specs.List.{AllByRecursion};
 ghost use Rattle.first_breaches.specs.Breaches.{FindsNumber, FindsPlace, IsFirstPlace, Place};
+ghost use Rattle.product_automaton.specs.Cycles.{CyclesAdvance};
 ghost use Rattle.product_automaton.specs.Ranks.{HasLowRanks, RanksFall};
 ghost use Rattle.product_automaton.specs.Rules.{HasCounts, HasShortPaths, IsBlank, IsBreachAmong, IsProductBreach, Keeps, KeepsFalls, KeepsInvariants, KeepsPaths, KeepsPlaces, KeepsSizes, MeetsRules, StandsInside, later_rules};
 
@@ -26,11 +27,13 @@ const LATER_RULES: [Rule; 5] = [
 
 impl Product {
     /// Whether the product meets the rules over the flow graphs of its two functions; else the first
-    /// rule that is broken, at its first place. Where it meets them, its ranks fall.
+    /// rule that is broken, at its first place. Where it meets them, its ranks fall, and no cycle stands
+    /// still on a side.
     pub fn well_formed(&self, left: &Graph, right: &Graph) -> Result<(), Breach>
         ensures ok { IsOk result ↔ MeetsRules self.now left.now right.now }
         ensures first { (breach : Breach) → (result ≡ Err breach) ↔ IsProductBreach self.now left.now right.now breach }
         ensures falls { IsOk result → RanksFall self.now }
+        ensures advances { IsOk result → CyclesAdvance self.now }
     {
         match self.first_breach(left, right) {
             None => Ok(()),
