@@ -11,5 +11,5 @@ pub mod laws;
 mod product;
 mod row;
 
-pub use product::push_product;
+pub use product::{product_helper_count, push_product};
 pub use row::{Row, push_equal, push_row};

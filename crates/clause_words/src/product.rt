@@ -2,7 +2,7 @@
 ghost use Rattle.std.specs.Prelude.{◌≡◌, ◌+◌, ◌-◌, ◌*◌, ◌^◌, ◌<◌, ◌≤◌, ◌++◌, OnOk};
 ghost use Rattle.clause_gates.specs.Gates.{copy_gate, positive};
 ghost use Rattle.clause_gates.specs.NormalForms.{normal_clauses};
-ghost use Rattle.clause_words.specs.Products.{product_row, stage_clauses, stage_rows, stage_start, sum_start};
+ghost use Rattle.clause_words.specs.Products.{product_helpers, product_row, stage_clauses, stage_rows, stage_start, sum_start};
 ghost use Rattle.clause_words.specs.Rows.{HasRoom, bit as bit_of, columns};
 
 use crate::row::{Row, bit, push_row};
@@ -97,4 +97,17 @@ fn push_stage(
             carry: start + n + n,
         },
     )
+}
+
+/// How many helpers the row of a product of `w` bits has.
+pub fn product_helper_count(w: u32) -> u32
+    requires { (0 < w) × (w ≤ 64) }
+    ensures value { result ≡ product_helpers w }
+    ensures few { result ≤ 12352 }
+{
+    let mut count = w;
+    for k in 0..w - 1 {
+        count += 3 * (w - 1 - k) - 1;
+    }
+    count
 }
