@@ -15,7 +15,7 @@ use Rattle.terms.specs.declared.rules.Reduced.TheVariants.{Old, New}
 use Rattle.terms.specs.Rules.{reduced}
 use Rattle.terms.specs.Made.{Made, is_same_node, made, placed}
 use Rattle.address_nodes.specs.Multiples.{AreTerms, IsOfWidth, IsSumSoFar, Sum, Term, added, begun, exponent, is_added, minus_term, multiple, multiple_by, plus_term, subtracted, sum_of}
-use Rattle.address_nodes.specs.Differences.{equation, with_constant}
+use Rattle.address_nodes.specs.Differences.{difference_form, difference_terms, equality, is_least_subtracted, no_difference, equation, with_constant}
 
 pub same_extends : (ns : List Node) → Extends ns ns
 same_extends ns = ([], sym (append-nil ns))
@@ -156,3 +156,16 @@ multiple_by_longer ns w q a k is h = subst (λ j. 65536 < length (multiple_by ns
 -- the sum is as long as the part of it that is added
 pub sum_longer : (ns : List Node) (ps : List Term) → 65536 < length (added ns ps).nodes → 65536 < length (sum_of ns ps).nodes
 sum_longer ns ps h = still_longer (added ns ps).nodes (sum_of ns ps).nodes (subtracted_extends (added ns ps) ps) h
+
+pub equality_extends : (ns : List Node) (a b : NodeId) → Extends ns (equality ns a b).nodes
+unfolding equality
+equality_extends ns a b = elim (cases_Bool (is_least_subtracted (difference_terms ns a b))) [
+  | inl t ↦ rw t (one_way b a)
+  | inr f ↦ rw f (one_way a b)
+]
+  where
+    one_way : (c d : NodeId) → Extends ns (no_difference ns c d).nodes
+    one_way c d =
+        let sum : Sum = sum_of ns (difference_terms ns c d) in
+        extends_trans ns sum.nodes (equation sum.nodes (difference_form ns c d).constant sum.node).nodes (sum_extends ns (difference_terms ns c d))
+        (equation_extends sum.nodes (difference_form ns c d).constant sum.node)

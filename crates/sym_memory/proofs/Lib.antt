@@ -1,0 +1,4 @@
+pub mod ByteLoops
+pub mod Choosing
+pub mod Longer
+pub mod Testing
