@@ -1,4 +1,5 @@
 pub mod ByteLoops
+pub mod ByteValues
 pub mod Choosing
 pub mod Longer
 pub mod Testing

@@ -1,3 +1,4 @@
 pub mod Writes
 pub mod Reads
 pub mod Choices
+pub mod Bytes

@@ -1,8 +1,10 @@
 //! The memory of a side along a path.
-ghost use Rattle.std.specs.Prelude.{◌≡◌, ℕ, ◌+◌, ◌<◌, ◌^◌, ◌≤◌, [], ◌++◌, IfOk, IsErrOf, OnOk, OnErr, length, reverse};
-ghost use Rattle.node_values.specs.Sheets.{Extends, IsSheet};
-ghost use Rattle.address_nodes.specs.Multiples.{IsAddress};
+ghost use Rattle.std.specs.Prelude.{◌≡◌, ℕ, ◌+◌, ◌<◌, ◌^◌, ◌≤◌, [], ◌++◌, IfOk, IsErrOf, OnOk, OnErr, length, reverse, slice_index_or};
+ghost use Rattle.node_values.specs.Sheets.{Extends, IsSheet, value_at};
+ghost use Rattle.node_values.specs.Values.{Environment};
+ghost use Rattle.address_nodes.specs.Multiples.{IsAddress, IsOfWidth};
 ghost use Rattle.sym_memory.specs.Writes.{AreWritten, PathMemory, written_bytes};
+ghost use Rattle.sym_memory.specs.Bytes.{HoldFor, address_of_byte, memory_byte};
 ghost use Rattle.sym_memory.specs.Reads.{byte_read, bytes_read, probed};
 
 use crate::byte::{byte_address, read_byte};
@@ -58,13 +60,21 @@ impl SymMem {
         requires written { AreWritten sheet.old self.old.written }
         ensures made { IfOk result (λ read. bytes_read self.old fixed.now access at bytes sheet.old
             ≡ record { nodes = sheet.new; bytes = read.items }) }
+        ensures count { IfOk result (λ read. length read.items ≡ bytes) }
+        ensures widths { IfOk result (λ read. (b : ℕ) → b < bytes → IsOfWidth sheet.new 8 (slice_index_or read.items b at)) }
+        ensures value { IfOk result (λ read. (e : Environment)
+            → HoldFor (value_at e sheet.old) fixed.now access self.old (value_at e sheet.old at.0) bytes
+            → (b : ℕ) → b < bytes → value_at e sheet.new (slice_index_or read.items b at).0
+            ≡ memory_byte e sheet.old self.old (address_of_byte (value_at e sheet.old at.0) b)) }
         ensures extends { Extends sheet.old sheet.new }
         ensures full { IsErrOf result SheetFull.Full
             → 65536 < length (bytes_read self.old fixed.now access at bytes sheet.old).nodes }
         ensures same { self.new ≡ self.old }
     {
         let alloc = self.alloc;
-        read_bytes(alloc, self, sheet, access, at, bytes, fixed)
+        sheet.in_order();
+        let read = read_bytes(alloc, self, sheet, access, at, bytes, fixed)?;
+        Ok(read)
     }
 
     /// Adds the bytes that an access writes, lowest first.
@@ -98,6 +108,9 @@ impl SymMem {
         requires address { IsAddress sheet.old at }
         requires written { AreWritten sheet.old self.now.written }
         ensures made { IfOk result (λ id. probed self.now at sheet.old ≡ record { nodes = sheet.new; id = id }) }
+        ensures width { IfOk result (IsOfWidth sheet.new 8) }
+        ensures value { IfOk result (λ id. (e : Environment)
+            → value_at e sheet.new id.0 ≡ memory_byte e sheet.old self.now (value_at e sheet.old at.0)) }
         ensures extends { Extends sheet.old sheet.new }
         ensures full { IsErrOf result SheetFull.Full → 65536 < length (probed self.now at sheet.old).nodes }
     {
@@ -106,7 +119,9 @@ impl SymMem {
             byte: 0,
             address: at,
         };
-        self.byte(sheet, &[], place)
+        sheet.in_order();
+        let id = self.byte(sheet, &[], place)?;
+        Ok(id)
     }
 }
 
