@@ -1,2 +1,4 @@
+pub mod LeafWidths
 pub mod Past
+pub mod Values
 pub mod Widths

@@ -1,5 +1,5 @@
 -- Older nodes keep their widths in a later sheet.
-use Rattle.std.proofs.Common.{◌≡◌, ℕ, ◌+◌, ◌<◌, ◌≤◌, ◌^◌, List, ◌++◌, length, zero, suc, refl, sym, ◌∙◌, ap, arith, length-append}
+use Rattle.std.proofs.Common.{◌≡◌, ℕ, ◌+◌, ◌<◌, ◌≤◌, ◌^◌, List, ◌++◌, length, zero, suc, refl, sym, ◌∙◌, ap, arith, length-append, append_assoc}
 use Rattle.std.proofs.lemmas.Nat.{pow_pos}
 use Rattle.node_values.specs.declared.node.Node.{Node}
 use Rattle.node_values.specs.Sheets.{Extends, IsSheet, width_at}
@@ -18,3 +18,7 @@ small_word zero v h k = absurd (nothing_below h)
     nothing_below : 0 < 0 → ⊥
     nothing_below h = omega (arith, h)
 small_word (suc w) v h k = let some : 0 < 2 ^ w = pow_pos w in omega (arith, some, k)
+
+-- what extends an extension of a sheet extends it
+pub extends_through : (ns mid later : List Node) → Extends ns mid → Extends mid later → Extends ns later
+extends_through ns mid later h k = (h.0 ++ k.0, k.1 ∙ ap (λ l. l ++ k.0) h.1 ∙ append_assoc ns h.0 k.0)

@@ -1,1 +1,2 @@
+pub mod FlagExprs
 pub mod Leaves

@@ -14,6 +14,7 @@ pub fn node(sheet: &mut Sheet, node: Node) -> Result<NodeId, SheetFull>
     ensures full { IsErrOf result SheetFull.Full → 65536 < length (made sheet.old node).nodes }
     ensures inside { IfOk result (λ id. id.0 < length sheet.new) }
     ensures width { IfOk result (λ id. width_at sheet.new id.0 ≡ node_width (width_at sheet.old) node) }
+    ensures extends { Extends sheet.old sheet.new }
     ensures longer { length sheet.old ≤ length sheet.new }
     ensures kept { (i : ℕ) → i < length sheet.old → width_at sheet.new i ≡ width_at sheet.old i }
     ensures room { length sheet.new ≤ 65536 }
@@ -31,6 +32,7 @@ pub fn constant(sheet: &mut Sheet, w: u32, v: u64) -> Result<NodeId, SheetFull>
     ensures full { IsErrOf result SheetFull.Full → 65536 < length (made sheet.old (nodes_of.Const w v)).nodes }
     ensures inside { IfOk result (λ id. id.0 < length sheet.new) }
     ensures width { IfOk result (λ id. width_at sheet.new id.0 ≡ w) }
+    ensures extends { Extends sheet.old sheet.new }
     ensures longer { length sheet.old ≤ length sheet.new }
     ensures kept { (i : ℕ) → i < length sheet.old → width_at sheet.new i ≡ width_at sheet.old i }
     ensures room { length sheet.new ≤ 65536 }

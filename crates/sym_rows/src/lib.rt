@@ -5,5 +5,7 @@
 #![tactic(auto)]
 
 mod building;
+pub mod conditions;
+pub mod flags;
 pub mod operands;
 pub mod rows;

@@ -4,8 +4,8 @@ ghost use Rattle.std.specs.List.{AllByRecursion};
 ghost use Rattle.insn_semantics.specs.Exprs.{leaves_of};
 ghost use Rattle.insn_semantics.specs.FormedRows.{HasRowWidth, row_widths};
 ghost use Rattle.insn_semantics.specs.Rows.{row_expr};
-ghost use Rattle.node_values.specs.Sheets.{width_at};
-ghost use Rattle.terms.specs.Building.{built};
+ghost use Rattle.node_values.specs.Sheets.{Extends, width_at};
+ghost use Rattle.terms.specs.Building.{HasValue, built};
 ghost use Rattle.sym_rows.specs.Leaves.{row_leaf};
 
 use crate::building::{constant, node};
@@ -13,20 +13,34 @@ use crate::operands::RowNodes;
 use insn_ops::Op;
 use terms::{Node, NodeId, Sheet, SheetFull};
 
+/// Builds what a general operation computes at `w` bits, a shift by `k`, over nodes of the sheet. In every
+/// environment the node has the row's value.
+pub fn row(sheet: &mut Sheet, op: Op, w: u32, k: u32, over: RowNodes) -> Result<NodeId, SheetFull>
+    requires row { HasRowWidth op w k }
+    requires inside { (i : ℕ) → (row_leaf over i).0 < length sheet.old }
+    requires widths { AllByRecursion (λ i. width_at sheet.old (row_leaf over i).0 ≡ row_widths op w i) (leaves_of (row_expr op w k)) }
+    ensures built { IfOk result (λ id. built sheet.old (row_leaf over) (row_expr op w k) ≡ record { nodes = sheet.new; id = id }) }
+    ensures value { IfOk result (λ id.
+        HasValue sheet.old (row_leaf over) (row_expr op w k) (record { nodes = sheet.new; id = id })) }
+    ensures full { IsErrOf result SheetFull.Full → 65536 < length (built sheet.old (row_leaf over) (row_expr op w k)).nodes }
+    ensures extends { Extends sheet.old sheet.new }
+    ensures room { length sheet.new ≤ 65536 }
+{
+    sheet.in_order();
+    let built = built_row(sheet, op, w, k, over);
+    sheet.in_order();
+    built
+}
+
 /// The node of what a general operation computes at `w` bits, a shift by `k`.
-#[tactic(auto, unfolding(terms::specs::Building::built), using(crate::proofs::Past::still_over))]
-fn built_row(
-    sheet: &mut Sheet,
-    op: Op,
-    w: u32,
-    k: u32,
-    over: RowNodes,
-) -> Result<NodeId, SheetFull>
+#[tactic(auto, unfolding(terms::specs::Building::built), using(crate::proofs::Past::still_over, crate::proofs::Widths::extends_through))]
+fn built_row(sheet: &mut Sheet, op: Op, w: u32, k: u32, over: RowNodes) -> Result<NodeId, SheetFull>
     requires row { HasRowWidth op w k }
     requires inside { (i : ℕ) → (row_leaf over i).0 < length sheet.old }
     requires widths { AllByRecursion (λ i. width_at sheet.old (row_leaf over i).0 ≡ row_widths op w i) (leaves_of (row_expr op w k)) }
     ensures built { IfOk result (λ id. built sheet.old (row_leaf over) (row_expr op w k) ≡ record { nodes = sheet.new; id = id }) }
     ensures full { IsErrOf result SheetFull.Full → 65536 < length (built sheet.old (row_leaf over) (row_expr op w k)).nodes }
+    ensures extends { Extends sheet.old sheet.new }
 {
     let RowNodes {
         destination: d,

@@ -88,9 +88,11 @@ pub node-requires-in-Movzx : goal.node-requires-in-Movzx
 node-requires-in-Movzx c =
     let e = rw c.in-Movzx.is at c.requires.widths in
     let h = rw c.in-Movzx.is at c.requires.row in
-    let source = c.constant-in-Movzx.ensures.kept _ (c.requires.inside 1) ∙ e.0 in
-    (c.in_ok-zeros-in-Movzx.ensures.inside, omega (arith, c.requires.inside 1, c.constant-in-Movzx.ensures.longer),
-    omega (arith, h.1, h.2, source, c.in_ok-zeros-in-Movzx.ensures.width))
+    let source = c.constant-in-Movzx.ensures.kept _ (c.requires.inside 1) ∙ e.0 in (
+      c.in_ok-zeros-in-Movzx.ensures.inside,
+      omega (arith, c.requires.inside 1, c.constant-in-Movzx.ensures.longer),
+      omega (arith, h.1, h.2, source, c.in_ok-zeros-in-Movzx.ensures.width),
+    )
 
 pub node-requires-in-Movsx : goal.node-requires-in-Movsx
 node-requires-in-Movsx c =
@@ -111,6 +113,8 @@ node-requires-in-Cmov c =
 pub node-requires-in-Set : goal.node-requires-in-Set
 node-requires-in-Set c =
     let e = rw c.in-Set.is at c.requires.widths in
-    let bit = c.constant-in-Set.ensures.kept _ (c.requires.inside 2) ∙ e.0 in
-    (c.in_ok-zeros-in-Set.ensures.inside, omega (arith, c.requires.inside 2, c.constant-in-Set.ensures.longer),
-    omega (arith, bit, c.in_ok-zeros-in-Set.ensures.width))
+    let bit = c.constant-in-Set.ensures.kept _ (c.requires.inside 2) ∙ e.0 in (
+      c.in_ok-zeros-in-Set.ensures.inside,
+      omega (arith, c.requires.inside 2, c.constant-in-Set.ensures.longer),
+      omega (arith, bit, c.in_ok-zeros-in-Set.ensures.width),
+    )
