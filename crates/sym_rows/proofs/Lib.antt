@@ -1,3 +1,4 @@
+pub mod FlagForms
 pub mod LeafWidths
 pub mod Past
 pub mod Values

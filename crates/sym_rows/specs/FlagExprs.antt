@@ -6,6 +6,14 @@ use Rattle.insn_semantics.specs.FlagRules.{Rule, Keeps, Unsets, Sets, carry_rule
 use Rattle.sym_rows.specs.declared.operands.Flag.{Flag}
 use Rattle.sym_rows.specs.declared.operands.Flag.TheVariants as flags
 
+-- the test of the result that the zero, the sign and the parity flag are
+abbrev pub result_test : ℕ → Flag → Expr
+result_test w flags.Parity = is_even
+result_test w flags.Zero = is_zero w
+result_test w flags.Sign = is_negative w
+result_test w flags.Carry = Leaf 0
+result_test w flags.Overflow = Leaf 0
+
 -- what an operation at w bits does to a flag, a shift by k
 abbrev pub flag_rule : Flag → Op → ℕ → ℕ → Rule
 flag_rule flags.Carry op w k = carry_rule op w k

@@ -1,4 +1,4 @@
-use Rattle.std.proofs.Common.{◌≡◌, ◌∙◌}
+use Rattle.std.proofs.Common.{◌∙◌}
 use Rattle.sym_rows.specs.Leaves.{condition_leaf}
 use Rattle.sym_rows.proofs.LeafWidths.{alike, alike_leaf, later_leaves}
 use Rattle.sym_rows.proofs.conditions.built_condition.Goals as goal

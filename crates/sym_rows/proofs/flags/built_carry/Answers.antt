@@ -1,4 +1,4 @@
-use Rattle.std.proofs.Common.{◌<◌, arith}
+use Rattle.std.proofs.Common.{arith}
 use Rattle.sym_rows.specs.Leaves.{flag_leaf}
 use Rattle.sym_rows.proofs.LeafWidths.{alike}
 use Rattle.sym_rows.proofs.flags.built_carry.Goals as goal

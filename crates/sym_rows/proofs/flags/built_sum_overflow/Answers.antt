@@ -1,5 +1,4 @@
-use Rattle.std.proofs.Common.{◌≡◌, ◌<◌, sym, ◌∙◌, arith}
-use Rattle.node_values.specs.Sheets.{width_at}
+use Rattle.std.proofs.Common.{sym, ◌∙◌, arith}
 use Rattle.sym_rows.specs.Leaves.{flag_leaf}
 use Rattle.sym_rows.proofs.LeafWidths.{alike, later_leaves}
 use Rattle.sym_rows.proofs.flags.built_sum_overflow.Goals as goal

@@ -1,5 +1,4 @@
-use Rattle.std.proofs.Common.{ℕ, ◌+◌, ◌≡◌, ◌<◌, ◌≤◌, length, sym, ◌∙◌, ap, subst, arith}
-use Rattle.node_values.specs.Sheets.{width_at}
+use Rattle.std.proofs.Common.{sym, ◌∙◌, arith}
 use Rattle.sym_rows.proofs.rows.built_row.Goals as goal
 
 pub node-requires : goal.node-requires
