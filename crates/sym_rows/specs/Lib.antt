@@ -1,2 +1,3 @@
 pub mod FlagExprs
+pub mod LazyFlags
 pub mod Leaves

@@ -7,5 +7,6 @@
 mod building;
 pub mod conditions;
 pub mod flags;
+pub mod lazy_flags;
 pub mod operands;
 pub mod rows;
