@@ -1,0 +1,55 @@
+-- What code computes that reads values one behind another: a value and the rest of the text, or what is left of the
+-- text from the first wrong byte on.
+use Rattle.std.specs.Prelude.{ℕ, suc, zero, ◌==◌, if◌then◌else◌, List, [], ◌∷◌, Option, Some, None, Result, Ok, Err}
+use Rattle.outcomes.specs.Firsts.{◌>>=◌}
+use Rattle.text_parts.specs.Cuts.{after_byte}
+
+-- what is read of a text
+abbrev pub Reading : Type 0 → Type 0
+Reading V = Result (V × List ℕ) (List ℕ)
+
+-- a fixed word
+unfoldable pub word_at : List ℕ → List ℕ → Reading Unit
+word_at [] text = Ok (tt, text)
+word_at (c ∷ word) [] = Err []
+word_at (c ∷ word) (b ∷ text) = if b == c then word_at word text else Err (b ∷ text)
+
+-- a word, and a value behind it
+abbrev pub behind : {V : Type 0} → List ℕ → (List ℕ → Reading V) → List ℕ → Reading V
+behind word r text = word_at word text >>= λ x. r x.1
+
+-- a value, and behind it another, which is read by what the first is
+abbrev pub then_at : {A B : Type 0} → (List ℕ → Reading A) → (A → List ℕ → Reading B) → List ℕ → Reading (A × B)
+then_at r s text = r text >>= λ x. (s x.0 x.1 >>= λ y. Ok ((x.0, y.0), y.1))
+
+-- a value, and a value behind it
+abbrev pub pair_at : {A B : Type 0} → (List ℕ → Reading A) → (List ℕ → Reading B) → List ℕ → Reading (A × B)
+pair_at r s text = then_at r (λ a. s) text
+
+-- a value made of what is read
+abbrev pub made_at : {A B : Type 0} → (A → B) → (List ℕ → Reading A) → List ℕ → Reading B
+made_at make r text = r text >>= λ x. Ok (make x.0, x.1)
+
+-- so many values, one behind another
+unfoldable pub times_at : {V : Type 0} → (List ℕ → Reading V) → ℕ → List ℕ → Reading (List V)
+times_at r zero text = Ok ([], text)
+times_at r (suc n) text = r text >>= λ x. (times_at r n x.1 >>= λ y. Ok (x.0 ∷ y.0, y.1))
+
+-- a count, and so many values behind it
+abbrev pub counted_at : {V : Type 0} → (List ℕ → Reading ℕ) → (List ℕ → Reading V) → List ℕ → Reading (List V)
+counted_at {V = V} count r text = made_at (λ (p : ℕ × List V). p.1) (then_at count (times_at r)) text
+
+-- behind this byte by the first reader, else by the second
+abbrev pub choose_at : {V : Type 0} → ℕ → (List ℕ → Reading V) → (List ℕ → Reading V) → List ℕ → Reading V
+choose_at c r s [] = s []
+choose_at c r s (b ∷ text) = if b == c then r text else s (b ∷ text)
+
+-- so many values, each but the last ended by a space, and the last by a newline; a reader is told the byte that ends
+unfoldable pub line_at : {V : Type 0} → (ℕ → List ℕ → Reading V) → ℕ → List ℕ → Reading (List V)
+line_at r zero text = Ok ([], text)
+line_at r (suc zero) text = r 10 text >>= λ x. Ok (x.0 ∷ [], x.1)
+line_at r (suc (suc n)) text = r 32 text >>= λ x. (line_at r (suc n) x.1 >>= λ y. Ok (x.0 ∷ y.0, y.1))
+
+-- a count, and so many values behind it, each but the last ended by a space, and the last by a newline
+abbrev pub counted_line_at : {V : Type 0} → (List ℕ → Reading ℕ) → (ℕ → List ℕ → Reading V) → List ℕ → Reading (List V)
+counted_line_at {V = V} count r text = made_at (λ (p : ℕ × List V). p.1) (then_at count (line_at r)) text

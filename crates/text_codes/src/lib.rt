@@ -1,0 +1,2 @@
+//! Values printed one behind another.
+#![tactic(auto)]
