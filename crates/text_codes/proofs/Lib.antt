@@ -1,3 +1,5 @@
 pub mod Chains
 pub mod Combined
 pub mod Choices
+pub mod Decimals
+pub mod NumberReading

@@ -1,3 +1,4 @@
 pub mod Codes
 pub mod Readers
 pub mod Lists
+pub mod Numbers
