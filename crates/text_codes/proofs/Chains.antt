@@ -6,7 +6,7 @@ use Rattle.text_codes.specs.Codes.{IsWrong, Stops, Finds, IsRead, Reads}
 use Rattle.text_codes.specs.Readers.{Reading, pair_at, made_at}
 
 -- where reading stops, no value stands at the front
-stops_apart : {V : Type 0} (f : V → List ℕ) (F : V → Type 0) (text left : List ℕ) → Stops f F text left
+pub stops_apart : {V : Type 0} (f : V → List ℕ) (F : V → Type 0) (text left : List ℕ) → Stops f F text left
     → (v : V) (x : List ℕ) → F v → text ≡ f v ++ x → ⊥
 stops_apart f F text [] s v x h e = s.wrong v x h (sym (append-nil s.good) ∙ (sym s.parts ∙ e))
 stops_apart f F text (b ∷ left) s v x h e = s.wrong v left x h (sym s.parts ∙ e)
@@ -22,7 +22,7 @@ pub free : {V : Type 0} (f : V → List ℕ) (F : V → Type 0) (r : List ℕ �
     → (v w : V) (x y : List ℕ) → F v → F w → f v ++ x ≡ f w ++ y → (v ≡ w) × (x ≡ y)
 free f F r rd v w x y hv hw e = free_at f F (f v ++ x) (r (f v ++ x)) (rd.right (f v ++ x)) v w x y hv hw refl e
 
-known_at : {V : Type 0} (f : V → List ℕ) (F : V → Type 0) (text : List ℕ) (q : Reading V) → IsRead f F text q
+pub known_at : {V : Type 0} (f : V → List ℕ) (F : V → Type 0) (text : List ℕ) (q : Reading V) → IsRead f F text q
     → (v : V) (x : List ℕ) → F v → text ≡ f v ++ x → q ≡ Ok (v, x)
 known_at {V = V} f F text (Ok p) r v x h e =
     let a = r.only v x h e in ap (λ (u : V). Ok (u, p.1)) (sym a.0) ∙ ap (λ (t : List ℕ). Ok (v, t)) (sym a.1)
@@ -64,6 +64,7 @@ chain_at whole W part tail f F s apart text k (Ok p) read next =
   where
     along : (w : _) (y : List ℕ) → W w → whole w ++ y ≡ f (part w) ++ (tail w ++ y)
     along w y h = ap (λ (t : List ℕ). t ++ y) (s.text w h) ∙ append_assoc (f (part w)) (tail w) y
+
     wrong : (good left : List ℕ) → IsWrong tail (With W part p.0) good left → IsWrong whole W (f p.0 ++ good) left
     wrong good [] h = λ w y hw e.
         let a = apart p.0 (part w) good (tail w ++ y) read.fits (s.fits w hw) (e ∙ along w y hw) in
@@ -71,26 +72,27 @@ chain_at whole W part tail f F s apart text k (Ok p) read next =
     wrong good (b ∷ left) h = λ w x y hw e.
         let a = apart p.0 (part w) (good ++ b ∷ x) (tail w ++ y) read.fits (s.fits w hw) (sym (append_assoc (f p.0) good (b ∷ x)) ∙ (e ∙ along w y hw)) in
         h w x y (hw, sym a.0) a.1
+
     behind_it : (q : Reading _) → IsRead tail (With W part p.0) p.1 q → IsRead whole W text q
     behind_it (Ok z) found = record {
-        fits = found.fits.0;
-        parts = read.parts ∙ (ap (λ (t : List ℕ). f p.0 ++ t) found.parts
-            ∙ (ap (λ (a : _). f a ++ (tail z.0 ++ z.1)) (sym found.fits.1) ∙ sym (along z.0 z.1 found.fits.0)));
-        only = λ w y hw e.
-            let a = read.only (part w) (tail w ++ y) (s.fits w hw) (e ∙ along w y hw) in
-            found.only w y (hw, a.0) (sym a.1)
-      }
+      fits = found.fits.0;
+      parts = read.parts ∙ (ap (λ (t : List ℕ). f p.0 ++ t) found.parts
+          ∙ (ap (λ (a : _). f a ++ (tail z.0 ++ z.1)) (sym found.fits.1) ∙ sym (along z.0 z.1 found.fits.0)));
+      only = λ w y hw e.
+          let a = read.only (part w) (tail w ++ y) (s.fits w hw) (e ∙ along w y hw) in
+          found.only w y (hw, a.0) (sym a.1);
+    }
     behind_it (Err left) found = record {
-        good = f p.0 ++ found.good;
-        parts = read.parts ∙ (ap (λ (t : List ℕ). f p.0 ++ t) found.parts ∙ sym (append_assoc (f p.0) found.good left));
-        value = found.value;
-        fits = found.fits.0;
-        next = found.next;
-        more = found.more;
-        begins = s.text found.value found.fits.0 ∙ (ap (λ (a : _). f a ++ tail found.value) found.fits.1
-            ∙ (ap (λ (t : List ℕ). f p.0 ++ t) found.begins ∙ sym (append_assoc (f p.0) found.good (found.next ∷ found.more))));
-        wrong = wrong found.good left found.wrong
-      }
+      good = f p.0 ++ found.good;
+      parts = read.parts ∙ (ap (λ (t : List ℕ). f p.0 ++ t) found.parts ∙ sym (append_assoc (f p.0) found.good left));
+      value = found.value;
+      fits = found.fits.0;
+      next = found.next;
+      more = found.more;
+      begins = s.text found.value found.fits.0 ∙ (ap (λ (a : _). f a ++ tail found.value) found.fits.1
+          ∙ (ap (λ (t : List ℕ). f p.0 ++ t) found.begins ∙ sym (append_assoc (f p.0) found.good (found.next ∷ found.more))));
+      wrong = wrong found.good left found.wrong;
+    }
 chain_at whole W part tail f F s apart text k (Err left) read next =
     let v = s.some read.value read.fits in
     record {
@@ -102,11 +104,12 @@ chain_at whole W part tail f F s apart text k (Err left) read next =
       more = read.more ++ tail v.0;
       begins = s.text v.0 v.1.0 ∙ (ap (λ (a : _). f a ++ tail v.0) v.1.1
           ∙ (ap (λ (t : List ℕ). t ++ tail v.0) read.begins ∙ append_assoc read.good (read.next ∷ read.more) (tail v.0)));
-      wrong = wrong read.good left read.wrong
+      wrong = wrong read.good left read.wrong;
     }
   where
     along : (w : _) (y : List ℕ) → W w → whole w ++ y ≡ f (part w) ++ (tail w ++ y)
     along w y h = ap (λ (t : List ℕ). t ++ y) (s.text w h) ∙ append_assoc (f (part w)) (tail w) y
+
     wrong : (good left : List ℕ) → IsWrong f F good left → IsWrong whole W good left
     wrong good [] h = λ w y hw e. h (part w) (tail w ++ y) (s.fits w hw) (e ∙ along w y hw)
     wrong good (b ∷ left) h = λ w x y hw e. h (part w) x (tail w ++ y) (s.fits w hw) (e ∙ along w y hw)
@@ -121,26 +124,41 @@ pub alike_at : {U V : Type 0} (f : V → List ℕ) (F : V → Type 0) (g : U →
     → Alike f F g G make → (text : List ℕ) (q : Reading U) → IsRead g G text q
     → IsRead f F text (q >>= λ (x : U × List ℕ). Ok (make x.0, x.1))
 alike_at f F g G make a text (Ok p) read = record {
-    fits = a.fits p.0 read.fits;
-    parts = read.parts ∙ ap (λ (t : List ℕ). t ++ p.1) (sym (a.text p.0 read.fits));
-    only = λ w y hw e.
-        let u = a.from w hw in
-        let same = read.only u.0 y u.1.0 (e ∙ (ap (λ (v : _). f v ++ y) (sym u.1.1) ∙ ap (λ (t : List ℕ). t ++ y) (a.text u.0 u.1.0))) in
-        (sym u.1.1 ∙ ap make same.0, same.1)
-  }
+  fits = a.fits p.0 read.fits;
+  parts = read.parts ∙ ap (λ (t : List ℕ). t ++ p.1) (sym (a.text p.0 read.fits));
+  only = λ w y hw e.
+      let u = a.from w hw in
+      let same = read.only u.0 y u.1.0 (e ∙ (ap (λ (v : _). f v ++ y) (sym u.1.1) ∙ ap (λ (t : List ℕ). t ++ y) (a.text u.0 u.1.0))) in
+      (sym u.1.1 ∙ ap make same.0, same.1);
+}
 alike_at f F g G make a text (Err left) read = record {
-    good = read.good;
-    parts = read.parts;
-    value = make read.value;
-    fits = a.fits read.value read.fits;
-    next = read.next;
-    more = read.more;
-    begins = a.text read.value read.fits ∙ read.begins;
-    wrong = wrong read.good left read.wrong
-  }
+  good = read.good;
+  parts = read.parts;
+  value = make read.value;
+  fits = a.fits read.value read.fits;
+  next = read.next;
+  more = read.more;
+  begins = a.text read.value read.fits ∙ read.begins;
+  wrong = wrong read.good left read.wrong;
+}
   where
     along : (w : _) (y : List ℕ) (hw : F w) → f w ++ y ≡ g (a.from w hw).0 ++ y
     along w y hw = ap (λ (v : _). f v ++ y) (sym (a.from w hw).1.1) ∙ ap (λ (t : List ℕ). t ++ y) (a.text (a.from w hw).0 (a.from w hw).1.0)
+
     wrong : (good left : List ℕ) → IsWrong g G good left → IsWrong f F good left
     wrong good [] h = λ w y hw e. h (a.from w hw).0 y (a.from w hw).1.0 (e ∙ along w y hw)
     wrong good (b ∷ left) h = λ w x y hw e. h (a.from w hw).0 x y (a.from w hw).1.0 (e ∙ along w y hw)
+
+-- a value made of two that are read
+pub made_pair : {A B V : Type 0} (make : A × B → V) (q : Reading A) (k : A × List ℕ → Reading B)
+    → ((q >>= λ (x : A × List ℕ). (k x >>= λ (y : B × List ℕ). let z : (A × B) × List ℕ = ((x.0, y.0), y.1) in Ok z))
+    >>= λ (z : (A × B) × List ℕ). let v : V × List ℕ = (make z.0, z.1) in Ok v)
+    ≡ (q >>= λ (x : A × List ℕ). (k x >>= λ (y : B × List ℕ). let v : V × List ℕ = (make (x.0, y.0), y.1) in Ok v))
+made_pair {A = A} {B = B} {V = V} make (Ok x) k = last (k x)
+  where
+    last : (q : Reading B) → ((q >>= λ (y : B × List ℕ). let z : (A × B) × List ℕ = ((x.0, y.0), y.1) in Ok z)
+        >>= λ (z : (A × B) × List ℕ). let v : V × List ℕ = (make z.0, z.1) in Ok v)
+        ≡ (q >>= λ (y : B × List ℕ). let v : V × List ℕ = (make (x.0, y.0), y.1) in Ok v)
+    last (Ok y) = refl
+    last (Err left) = refl
+made_pair make (Err left) k = refl

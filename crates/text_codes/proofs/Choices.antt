@@ -20,65 +20,85 @@ choose_reads {V = V} c f F g G H r s ch rg rh = record { right = right }
   where
     not_empty : (w : V) (y : List ℕ) → G w → [] ≡ f w ++ y → ⊥
     not_empty w y h e = let t = ch.text w h in let u : [] ≡ c ∷ (g w ++ y) = e ∙ ap (λ (l : List ℕ). l ++ y) t in cc
+
     not_other : (b : ℕ) (rest : List ℕ) (w : V) (y : List ℕ) → (b ≡ c → ⊥) → G w → b ∷ rest ≡ f w ++ y → ⊥
     not_other b rest w y apart h e =
         let t = ch.text w h in let u : b ∷ rest ≡ c ∷ (g w ++ y) = e ∙ ap (λ (l : List ℕ). l ++ y) t in apart (heads b c rest (g w ++ y) u)
       where
         heads : (b c : ℕ) (x y : List ℕ) → b ∷ x ≡ c ∷ y → b ≡ c
         heads b c x y e = cc
+
     -- what the second reads where nothing begins with the byte
     second_at : (text : List ℕ) → ((w : V) (y : List ℕ) → G w → text ≡ f w ++ y → ⊥)
         → ((good : List ℕ) (b : ℕ) (left x : List ℕ) → text ≡ good ++ b ∷ left → (w : V) (y : List ℕ) → G w → good ++ b ∷ x ≡ f w ++ y → ⊥)
         → (q : Reading V) → IsRead f H text q → IsRead f F text q
     second_at text apart apart_on (Ok p) read = record {
-        fits = ch.second p.0 read.fits;
-        parts = read.parts;
-        only = λ w y h e. elim (ch.either w h) [ inl a ↦ absurd (apart w y a e) | inr b ↦ read.only w y b e ]
-      }
+      fits = ch.second p.0 read.fits;
+      parts = read.parts;
+      only = λ w y h e. elim (ch.either w h) [ inl a ↦ absurd (apart w y a e) | inr b ↦ read.only w y b e ];
+    }
     second_at text apart apart_on (Err left) read = record {
-        good = read.good; parts = read.parts; value = read.value; fits = ch.second read.value read.fits;
-        next = read.next; more = read.more; begins = read.begins;
-        wrong = wrong read.good left read.parts read.wrong
-      }
+      good = read.good;
+      parts = read.parts;
+      value = read.value;
+      fits = ch.second read.value read.fits;
+      next = read.next;
+      more = read.more;
+      begins = read.begins;
+      wrong = wrong read.good left read.parts read.wrong;
+    }
       where
         wrong : (good left : List ℕ) → text ≡ good ++ left → IsWrong f H good left → IsWrong f F good left
         wrong good [] is h = λ w y hw e. elim (ch.either w hw) [
-            inl a ↦ apart w y a (is ∙ (no_more good ∙ e)) | inr b ↦ h w y b e ]
+          | inl a ↦ apart w y a (is ∙ (no_more good ∙ e))
+          | inr b ↦ h w y b e
+        ]
           where
             no_more : (l : List ℕ) → l ++ [] ≡ l
             no_more [] = refl
             no_more (x ∷ l) = ap (λ (t : List ℕ). x ∷ t) (no_more l)
         wrong good (b ∷ left) is h = λ w x y hw e. elim (ch.either w hw) [
-            inl a ↦ apart_on good b left x is w y a e | inr d ↦ h w x y d e ]
+          | inl a ↦ apart_on good b left x is w y a e
+          | inr d ↦ h w x y d e
+        ]
+
     -- what the first reads behind the byte
     first_at : (b : ℕ) (text : List ℕ) → b ≡ c → (q : Reading V) → IsRead g G text q → IsRead f F (b ∷ text) q
     first_at b text same (Ok p) read = record {
-        fits = ch.first p.0 read.fits;
-        parts = ap (λ (d : ℕ). d ∷ text) same ∙ (ap (λ (t : List ℕ). c ∷ t) read.parts ∙ ap (λ (t : List ℕ). t ++ p.1) (sym (ch.text p.0 read.fits)));
-        only = λ w y h e. elim (ch.either w h) [
-            inl a ↦ read.only w y a (tails b c text (g w ++ y) (e ∙ ap (λ (t : List ℕ). t ++ y) (ch.text w a)))
-          | inr d ↦ absurd (ch.other w y text d (sym e ∙ ap (λ (d : ℕ). d ∷ text) same)) ]
-      }
+      fits = ch.first p.0 read.fits;
+      parts = ap (λ (d : ℕ). d ∷ text) same ∙ (ap (λ (t : List ℕ). c ∷ t) read.parts ∙ ap (λ (t : List ℕ). t ++ p.1) (sym (ch.text p.0 read.fits)));
+      only = λ w y h e. elim (ch.either w h) [
+        | inl a ↦ read.only w y a (tails b c text (g w ++ y) (e ∙ ap (λ (t : List ℕ). t ++ y) (ch.text w a)))
+        | inr d ↦ absurd (ch.other w y text d (sym e ∙ ap (λ (d : ℕ). d ∷ text) same))
+      ];
+    }
       where
         tails : (b c : ℕ) (x y : List ℕ) → b ∷ x ≡ c ∷ y → x ≡ y
         tails b c x y e = cc
     first_at b text same (Err left) read = record {
-        good = b ∷ read.good;
-        parts = ap (λ (t : List ℕ). b ∷ t) read.parts;
-        value = read.value; fits = ch.first read.value read.fits; next = read.next; more = read.more;
-        begins = ch.text read.value read.fits ∙ (ap (λ (t : List ℕ). c ∷ t) read.begins ∙ ap (λ (d : ℕ). d ∷ (read.good ++ read.next ∷ read.more)) (sym same));
-        wrong = wrong read.good left read.wrong
-      }
+      good = b ∷ read.good;
+      parts = ap (λ (t : List ℕ). b ∷ t) read.parts;
+      value = read.value;
+      fits = ch.first read.value read.fits;
+      next = read.next;
+      more = read.more;
+      begins = ch.text read.value read.fits ∙ (ap (λ (t : List ℕ). c ∷ t) read.begins ∙ ap (λ (d : ℕ). d ∷ (read.good ++ read.next ∷ read.more)) (sym same));
+      wrong = wrong read.good left read.wrong;
+    }
       where
         tails : (b c : ℕ) (x y : List ℕ) → b ∷ x ≡ c ∷ y → x ≡ y
         tails b c x y e = cc
+
         wrong : (good left : List ℕ) → IsWrong g G good left → IsWrong f F (b ∷ good) left
         wrong good [] h = λ w y hw e. elim (ch.either w hw) [
-            inl a ↦ h w y a (tails b c good (g w ++ y) (e ∙ ap (λ (t : List ℕ). t ++ y) (ch.text w a)))
-          | inr d ↦ ch.other w y good d (sym e ∙ ap (λ (d : ℕ). d ∷ good) same) ]
+          | inl a ↦ h w y a (tails b c good (g w ++ y) (e ∙ ap (λ (t : List ℕ). t ++ y) (ch.text w a)))
+          | inr d ↦ ch.other w y good d (sym e ∙ ap (λ (d : ℕ). d ∷ good) same)
+        ]
         wrong good (l ∷ left) h = λ w x y hw e. elim (ch.either w hw) [
-            inl a ↦ h w x y a (tails b c (good ++ l ∷ x) (g w ++ y) (e ∙ ap (λ (t : List ℕ). t ++ y) (ch.text w a)))
-          | inr d ↦ ch.other w y (good ++ l ∷ x) d (sym e ∙ ap (λ (d : ℕ). d ∷ (good ++ l ∷ x)) same) ]
+          | inl a ↦ h w x y a (tails b c (good ++ l ∷ x) (g w ++ y) (e ∙ ap (λ (t : List ℕ). t ++ y) (ch.text w a)))
+          | inr d ↦ ch.other w y (good ++ l ∷ x) d (sym e ∙ ap (λ (d : ℕ). d ∷ (good ++ l ∷ x)) same)
+        ]
+
     front : (b : ℕ) (text good : List ℕ) (d : ℕ) (left x : List ℕ) → b ∷ text ≡ good ++ d ∷ left
         → (t : List ℕ) × (good ++ d ∷ x ≡ b ∷ t)
     front b text [] d left x e = (x, same e)
@@ -89,6 +109,7 @@ choose_reads {V = V} c f F g G H r s ch rg rh = record { right = right }
       where
         same : b ∷ text ≡ g0 ∷ (good ++ d ∷ left) → g0 ∷ (good ++ d ∷ x) ≡ b ∷ (good ++ d ∷ x)
         same e = cc
+
     right : (text : List ℕ) → IsRead f F text (choose_at c r s text)
     right [] = second_at [] not_empty (λ good b left x is w y h e. nothing good b left is) (s []) (rh.right [])
       where

@@ -51,6 +51,7 @@ within (x ∷ xs) t (z ∷ zs) c y all apart e =
   where
     heads : (b c : ℕ) (x y : List ℕ) → b ∷ x ≡ c ∷ y → b ≡ c
     heads b c x y e = cc
+
     tails : (b c : ℕ) (x y : List ℕ) → b ∷ x ≡ c ∷ y → x ≡ y
     tails b c x y e = cc
 
@@ -67,10 +68,10 @@ pub decimal_longer : (m n b : ℕ) (r : List ℕ) → m < 2 ^ 64 → n < 2 ^ 64 
     → n * 10 + digit_value b ≤ m
 decimal_longer m n b r low small e =
     let value : digits_value 10 (decimal m) ≡ digits_value_after 10 (digits_value 10 (decimal n)) (b ∷ r) =
-        ap (λ (l : List ℕ). digits_value 10 l) e ∙ value_append 0 (decimal n) (b ∷ r) in
+    ap (λ (l : List ℕ). digits_value 10 l) e ∙ value_append 0 (decimal n) (b ∷ r) in
     let known = value_of_decimal m low in let front = value_of_decimal n small in
     let is : m ≡ digits_value_after 10 (n * 10 + digit_value b) r =
-        sym known ∙ (value ∙ ap (λ (k : ℕ). digits_value_after 10 (k * 10 + digit_value b) r) front) in
+    sym known ∙ (value ∙ ap (λ (k : ℕ). digits_value_after 10 (k * 10 + digit_value b) r) front) in
     let grown = value_grows (n * 10 + digit_value b) r in omega arith
 
 -- no number goes on behind a leading 0
@@ -86,9 +87,11 @@ decimal_zero m b r low e =
         cases : (n : ℕ) → (n ≡ 0) ⊎ (0 < n)
         cases zero = inl refl
         cases (suc n) = inr (omega arith)
+
         at_zero : m ≡ 0 → decimal m ≡ 48 ∷ (b ∷ r) → ⊥
         at_zero z is =
             let one : length (decimal m) ≡ 1 = ap (λ (n : ℕ). length (decimal n)) z ∙ ap (λ (l : List ℕ). length l) (decimal_digit 0 (omega arith)) in
             let two : length (decimal m) ≡ length (48 ∷ (b ∷ r)) = ap (λ (l : List ℕ). length l) is in omega arith
+
         above : 0 < m → decimal m ≡ 48 ∷ (b ∷ r) → ⊥
         above s is = let f = first_decimal m s low in let g : get_or (decimal m) 0 0 ≡ 48 = ap (λ (l : List ℕ). get_or l 0 0) is in omega arith

@@ -2,3 +2,5 @@ pub mod Codes
 pub mod Readers
 pub mod Lists
 pub mod Numbers
+pub mod Endings
+pub mod Stops

@@ -7,11 +7,20 @@ unfoldable pub texts_of : {V : Type 0} → (V → List ℕ) → List V → List 
 texts_of f [] = []
 texts_of f (v ∷ vs) = f v ++ texts_of f vs
 
--- the texts of values, each but the last ended by a space, and the last by a newline; f is told the byte that ends
+-- the byte that ends what stands before these on a line: a newline before nothing, a space before more
+abbrev pub end_before : {V : Type 0} → List V → ℕ
+end_before [] = 10
+end_before (v ∷ vs) = 32
+
+-- the texts of values up to the end of a line, each ended by a space, and the last by a newline; f is told the byte
 unfoldable pub line_of : {V : Type 0} → (ℕ → V → List ℕ) → List V → List ℕ
 line_of f [] = []
-line_of f (v ∷ []) = f 10 v
-line_of f (v ∷ (w ∷ vs)) = f 32 v ++ line_of f (w ∷ vs)
+line_of f (v ∷ vs) = f (end_before vs) v ++ line_of f vs
+
+-- the texts of values up to an end that is no value
+unfoldable pub until : {V : Type 0} → (V → List ℕ) → V → List V → List ℕ
+until f end [] = f end
+until f end (v ∷ vs) = f v ++ until f end vs
 
 -- so many values, each of this kind
 abbrev pub AreListed : {V : Type 0} → (V → Type 0) → ℕ → List V → Type 0

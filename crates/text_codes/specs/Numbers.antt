@@ -1,8 +1,8 @@
 -- Decimal numbers in texts, each with the byte that ends it.
-use Rattle.std.specs.Prelude.{◌≡◌, ℕ, ◌+◌, ◌*◌, ◌<◌, ◌≤◌, ◌^◌, suc, Bool, true, false, ◌&&◌, nat_lt, nat_le, if◌then◌else◌, List, [], ◌∷◌, ◌++◌, Ok, Err, decimal}
+use Rattle.std.specs.Prelude.{◌≡◌, ℕ, ◌+◌, ◌*◌, ◌<◌, ◌≤◌, ◌^◌, suc, Bool, true, false, ◌&&◌, nat_lt, nat_le, if◌then◌else◌, MatchBool, List, [], ◌∷◌, ◌++◌, Ok, Err, decimal}
 use Rattle.std.specs.Char.{digit_value}
 use Rattle.outcomes.specs.Firsts.{◌>>=◌}
-use Rattle.text_codes.specs.Readers.{Reading, made_at}
+use Rattle.text_codes.specs.Readers.{Reading, made_at, choose_at}
 
 -- a number and the byte that ends it
 abbrev pub ended : ℕ × ℕ → List ℕ
@@ -38,3 +38,25 @@ unfoldable pub number_at : ℕ → ℕ → (ℕ → ℕ → Bool) → List ℕ �
 number_at limit low ends [] = Err []
 number_at limit low ends (b ∷ text) =
     if nat_lt (digit_value b) 10 && nat_le low (digit_value b) then digits_at limit ends (digit_value b) text else Err (b ∷ text)
+
+-- a number from low on and below the limit
+abbrev pub IsWithin : ℕ → ℕ → ℕ → Type 0
+IsWithin limit low n = (low ≤ n) × (n < limit)
+
+-- a number that only one byte may end
+abbrev pub settled_at : ℕ → ℕ → (ℕ → ℕ → Bool) → List ℕ → Reading ℕ
+settled_at limit low ends text = made_at (λ (v : ℕ × ℕ). v.0) (number_at limit low ends) text
+
+-- a number with its sign, true for a negative one, and the byte that ends it
+abbrev pub signed_text : Bool × (ℕ × ℕ) → List ℕ
+signed_text v = if v.0 then 45 ∷ ended v.1 else ended v.1
+
+-- a number above minus this and below that, with no sign before 0
+abbrev pub IsSigned : ℕ → ℕ → (ℕ → ℕ → Bool) → Bool × (ℕ × ℕ) → Type 0
+IsSigned below above ends v = MatchBool v.0 (IsEnded below 1 ends v.1) (IsEnded above 0 ends v.1)
+
+-- a number with its sign
+abbrev pub signed_at : ℕ → ℕ → (ℕ → ℕ → Bool) → List ℕ → Reading (Bool × (ℕ × ℕ))
+signed_at below above ends text =
+    choose_at 45 (made_at (λ (v : ℕ × ℕ). (true, v)) (number_at below 1 ends))
+    (made_at (λ (v : ℕ × ℕ). (false, v)) (number_at above 0 ends)) text

@@ -1,8 +1,7 @@
 -- What code computes that reads values one behind another: a value and the rest of the text, or what is left of the
 -- text from the first wrong byte on.
-use Rattle.std.specs.Prelude.{ℕ, suc, zero, ◌==◌, if◌then◌else◌, List, [], ◌∷◌, Option, Some, None, Result, Ok, Err}
+use Rattle.std.specs.Prelude.{ℕ, suc, zero, ◌==◌, nat_lt, Bool, length, if◌then◌else◌, List, [], ◌∷◌, Result, Ok, Err}
 use Rattle.outcomes.specs.Firsts.{◌>>=◌}
-use Rattle.text_parts.specs.Cuts.{after_byte}
 
 -- what is read of a text
 abbrev pub Reading : Type 0 → Type 0
@@ -53,3 +52,26 @@ line_at r (suc (suc n)) text = r 32 text >>= λ x. (line_at r (suc n) x.1 >>= λ
 -- a count, and so many values behind it, each but the last ended by a space, and the last by a newline
 abbrev pub counted_line_at : {V : Type 0} → (List ℕ → Reading ℕ) → (ℕ → List ℕ → Reading V) → List ℕ → Reading (List V)
 counted_line_at {V = V} count r text = made_at (λ (p : ℕ × List V). p.1) (then_at count (line_at r)) text
+
+-- values up to the end of a line, of which the byte that ended the last is known; each is read with the byte that ends it
+unfoldable pub linked_at : {V : Type 0} → (List ℕ → Reading (V × ℕ)) → ℕ → ℕ → List ℕ → Reading (List V)
+linked_at r zero e text = Err []
+linked_at r (suc turns) e text =
+    if e == 10 then Ok ([], text) else (r text >>= λ x. (linked_at r turns x.0.1 x.1 >>= λ y. Ok (x.0.0 ∷ y.0, y.1)))
+
+-- values up to one that ends them
+unfoldable pub until_at : {V : Type 0} → (V → Bool) → (List ℕ → Reading V) → ℕ → List ℕ → Reading (List V)
+until_at is_end r zero text = Err []
+until_at is_end r (suc turns) text =
+    r text >>= λ x. if is_end x.0 then Ok ([], x.1) else (until_at is_end r turns x.1 >>= λ y. Ok (x.0 ∷ y.0, y.1))
+
+-- of two answers the one that got further in the text
+abbrev pub further : {V : Type 0} → Reading V → Reading V → Reading V
+further (Ok x) q = Ok x
+further (Err left) (Ok y) = Ok y
+further (Err left) (Err rest) = if nat_lt (length rest) (length left) then Err rest else Err left
+
+-- the number of one of these names, the first of which has this number
+unfoldable pub names_at : ℕ → List (List ℕ) → List ℕ → Reading ℕ
+names_at n [] text = Err text
+names_at n (name ∷ names) text = further (made_at (λ (u : Unit {0}). n) (word_at name) text) (names_at (suc n) names text)

@@ -1,0 +1,18 @@
+//! Why reading ends with no value.
+
+use std::alloc::AllocError;
+
+/// Why no value was read.
+#[derive(Clone, Copy, Debug)]
+pub enum Stop<'t> {
+    /// Out of memory.
+    Memory,
+    /// What is left of the text from the first wrong byte on: nothing where the text is too short.
+    At(&'t [u8]),
+}
+
+impl From<AllocError> for Stop<'_> {
+    fn from(_error: AllocError) -> Self {
+        Stop::Memory
+    }
+}
