@@ -1,9 +1,9 @@
 -- How what is read of parts is what is read of the whole.
-use Rattle.std.proofs.Common.{◌≡◌, ℕ, suc, zero, List, [], ◌∷◌, ◌++◌, length, Result, Ok, Err, refl, sym, ap, ◌∙◌, subst, append_assoc}
+use Rattle.std.proofs.Common.{◌≡◌, ℕ, List, [], ◌∷◌, ◌++◌, Ok, Err, refl, sym, ap, ◌∙◌, append_assoc}
 use Rattle.std.proofs.lemmas.List.{append-nil}
 use Rattle.outcomes.specs.Firsts.{◌>>=◌}
-use Rattle.text_codes.specs.Codes.{IsWrong, Stops, Finds, IsRead, Reads}
-use Rattle.text_codes.specs.Readers.{Reading, pair_at, made_at}
+use Rattle.text_codes.specs.Codes.{IsWrong, Stops, IsRead, Reads}
+use Rattle.text_codes.specs.Readers.{Reading}
 
 -- where reading stops, no value stands at the front
 pub stops_apart : {V : Type 0} (f : V → List ℕ) (F : V → Type 0) (text left : List ℕ) → Stops f F text left

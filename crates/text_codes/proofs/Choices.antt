@@ -1,8 +1,7 @@
 -- Choices: by the first byte, and among words.
-use Rattle.std.proofs.Common.{◌≡◌, ◌⊎◌, inl, inr, ℕ, suc, zero, List, [], ◌∷◌, ◌++◌, length, Bool, true, false, eqb, cond, Result, Ok, Err, refl, sym, ap, ◌∙◌, subst, append_assoc, arith}
+use Rattle.std.proofs.Common.{◌≡◌, ◌⊎◌, inl, inr, ℕ, List, [], ◌∷◌, ◌++◌, true, false, eqb, cond, Ok, Err, refl, sym, ap, ◌∙◌}
 use Rattle.std.proofs.lemmas.Bool.{eqb-true, eqb-false}
-use Rattle.outcomes.specs.Firsts.{◌>>=◌}
-use Rattle.text_codes.specs.Codes.{IsWrong, Stops, Finds, IsRead, Reads}
+use Rattle.text_codes.specs.Codes.{IsWrong, IsRead, Reads}
 use Rattle.text_codes.specs.Readers.{Reading, choose_at}
 
 -- the values whose texts begin with a byte, and those whose texts do not

@@ -1,13 +1,13 @@
 -- Words, pairs and lists of what is read rightly are read rightly.
-use Rattle.std.proofs.Common.{◌≡◌, ℕ, suc, zero, List, [], ◌∷◌, ◌++◌, length, Bool, true, false, eqb, cond, Result, Ok, Err, refl, sym, ap, ◌∙◌, subst, append_assoc, arith}
+use Rattle.std.proofs.Common.{◌≡◌, ℕ, suc, zero, List, [], ◌∷◌, ◌++◌, length, true, false, eqb, cond, Ok, Err, refl, sym, ap, ◌∙◌, subst, arith}
 use Rattle.std.specs.List.{AllByRecursion}
 use Rattle.std.proofs.lemmas.Bool.{eqb-true, eqb-false}
 use Rattle.std.proofs.lemmas.List.{append-nil}
 use Rattle.outcomes.specs.Firsts.{◌>>=◌}
-use Rattle.text_codes.specs.Codes.{IsWrong, Stops, Finds, IsRead, Reads}
+use Rattle.text_codes.specs.Codes.{IsWrong, IsRead, Reads}
 use Rattle.text_codes.specs.Lists.{texts_of, line_of, AreListed}
 use Rattle.text_codes.specs.Readers.{Reading, word_at, behind, pair_at, made_at, then_at, times_at, counted_at, line_at, counted_line_at}
-use Rattle.text_codes.proofs.Chains.{free, some, Splits, With, chain_at, Alike, alike_at}
+use Rattle.text_codes.proofs.Chains.{free, some, With, chain_at, Alike, alike_at}
 
 -- a condition in other words
 

@@ -1,5 +1,5 @@
 -- Numbers with a sign, and those that only one byte may end.
-use Rattle.std.proofs.Common.{◌≡◌, ◌⊎◌, inl, inr, ℕ, suc, zero, ◌<◌, ◌≤◌, ◌^◌, Bool, true, false, cond, List, [], ◌∷◌, ◌++◌, length, refl, sym, ap, ◌∙◌, subst, arith}
+use Rattle.std.proofs.Common.{◌≡◌, ◌⊎◌, inl, inr, ℕ, ◌<◌, ◌^◌, Bool, true, false, cond, List, [], ◌∷◌, ◌++◌, length, refl, sym, ap, ◌∙◌, subst, arith}
 use Rattle.std.specs.Prelude.{decimal}
 use Rattle.std.specs.Char.{digit_value}
 use Rattle.std.specs.Str.Parse.{AllDigits}
@@ -8,8 +8,7 @@ use Rattle.std.proofs.lemmas.Fmt.{decimal_nonempty}
 use Rattle.text_codes.specs.Codes.{Reads}
 use Rattle.text_codes.specs.Numbers.{ended, IsEnded, IsRange, IsWithin, number_at, settled_at, signed_text, IsSigned, signed_at}
 use Rattle.text_codes.specs.Readers.{made_at}
-use Rattle.text_codes.proofs.Chains.{Alike}
-use Rattle.text_codes.proofs.Choices.{Chooses, choose_reads}
+use Rattle.text_codes.proofs.Choices.{choose_reads}
 use Rattle.text_codes.proofs.Combined.{made_reads}
 use Rattle.text_codes.proofs.Decimals.{all_digits}
 use Rattle.text_codes.proofs.NumberReading.{number_reads}

@@ -1,8 +1,8 @@
 -- Of several readers, none of whose texts begins another's, the answer that gets further is the right one.
-use Rattle.std.proofs.Common.{◌≡◌, ◌⊎◌, inl, inr, ℕ, suc, zero, ◌<◌, ◌≤◌, Bool, true, false, cond, ltb, List, [], ◌∷◌, ◌++◌, length, Result, Ok, Err, refl, sym, ap, ◌∙◌, subst, append_assoc, arith}
+use Rattle.std.proofs.Common.{◌≡◌, ◌⊎◌, inl, inr, ℕ, ◌≤◌, Bool, true, false, cond, ltb, List, [], ◌∷◌, ◌++◌, length, Ok, Err, refl, sym, ap, ◌∙◌, subst, append_assoc, arith}
 use Rattle.std.proofs.lemmas.Bool.{ltb-true, ltb-false, lt-ltb, le-ltb}
 use Rattle.std.proofs.lemmas.List.{append-nil, length-append}
-use Rattle.text_codes.specs.Codes.{IsWrong, Stops, Finds, IsRead, Reads}
+use Rattle.text_codes.specs.Codes.{IsWrong, IsRead}
 use Rattle.text_codes.specs.Readers.{Reading, further}
 use Rattle.text_codes.proofs.Chains.{stops_apart}
 

@@ -6,3 +6,5 @@ pub mod NumberReading
 pub mod Ended
 pub mod Further
 pub mod Lines
+pub mod NameReading
+pub mod Ranges

@@ -1,14 +1,13 @@
 -- Lists up to the end of a line, or up to a value that ends them.
-use Rattle.std.proofs.Common.{◌≡◌, ◌⊎◌, inl, inr, ℕ, suc, zero, ◌<◌, ◌≤◌, Bool, true, false, cond, eqb, List, [], ◌∷◌, ◌++◌, length, Result, Ok, Err, refl, sym, ap, ◌∙◌, subst, append_assoc, arith}
+use Rattle.std.proofs.Common.{◌≡◌, ◌⊎◌, inl, inr, ℕ, suc, zero, ◌<◌, Bool, true, false, cond, eqb, List, [], ◌∷◌, ◌++◌, length, Ok, refl, sym, ap, ◌∙◌, subst, arith}
 use Rattle.std.specs.List.{AllByRecursion}
-use Rattle.std.proofs.lemmas.Bool.{eqb-true, eqb-false, true≢false, false≢true, both_ways}
+use Rattle.std.proofs.lemmas.Bool.{eqb-true, eqb-false, both_ways}
 use Rattle.std.proofs.lemmas.List.{append-nil, length-append}
 use Rattle.outcomes.specs.Firsts.{◌>>=◌}
-use Rattle.text_codes.specs.Codes.{IsWrong, Stops, Finds, IsRead, Reads}
+use Rattle.text_codes.specs.Codes.{IsRead, Reads}
 use Rattle.text_codes.specs.Lists.{end_before, line_of, until}
 use Rattle.text_codes.specs.Readers.{Reading, linked_at, until_at}
-use Rattle.text_codes.proofs.Chains.{free, some, Splits, With, chain_at, Alike, alike_at, made_pair}
-use Rattle.text_codes.proofs.Combined.{refit_at}
+use Rattle.text_codes.proofs.Chains.{free, With, chain_at, alike_at, made_pair}
 
 -- the value alone, and nothing behind it
 pub alone : {V : Type 0} (f : V → List ℕ) (F : V → Type 0) (v : V) → F v → f v ≡ [] → ((w : V) → F w → w ≡ v)

@@ -1,14 +1,13 @@
 -- Numbers are read rightly.
-use Rattle.std.proofs.Common.{◌≡◌, ◌⊎◌, inl, inr, ℕ, suc, zero, ◌+◌, ◌*◌, ◌<◌, ◌≤◌, ◌^◌, Bool, true, false, ◌&&◌, cond, ltb, leb, List, [], ◌∷◌, ◌++◌, length, get_or, Result, Ok, Err, refl, sym, ap, ◌∙◌, subst, append_assoc, arith}
+use Rattle.std.proofs.Common.{◌≡◌, inl, inr, ℕ, suc, zero, ◌+◌, ◌*◌, ◌<◌, ◌≤◌, ◌^◌, Bool, true, false, ◌&&◌, cond, ltb, leb, List, [], ◌∷◌, ◌++◌, length, get_or, Ok, Err, refl, sym, ap, ◌∙◌, subst, append_assoc, arith}
 use Rattle.std.specs.Prelude.{decimal}
 use Rattle.std.specs.Char.{digit_value}
 use Rattle.std.specs.Str.Parse.{AllDigits}
-use Rattle.std.proofs.lemmas.Bool.{and_parts, and_from, ltb-true, ltb-false, leb-true, lt-ltb, le-leb, eqb-true, eqb-false, both_ways, cases_lt}
+use Rattle.std.proofs.lemmas.Bool.{and_parts, and_from, ltb-true, leb-true, lt-ltb, le-leb, both_ways, cases_lt}
 use Rattle.std.proofs.lemmas.Fmt.{decimal_injective, decimal_digit, decimal_nonempty, first_decimal}
 use Rattle.std.proofs.lemmas.List.{append-nil, length-append}
-use Rattle.text_codes.specs.Codes.{IsWrong, Stops, Finds, IsRead, Reads}
+use Rattle.text_codes.specs.Codes.{IsRead, Reads}
 use Rattle.text_codes.specs.Numbers.{ended, IsEnded, IsRange, goes_on, digits_at, number_at}
-use Rattle.text_codes.specs.Readers.{Reading}
 use Rattle.text_codes.proofs.Decimals.{all_digits, digit_is, decimal_one, decimal_more, within, decimal_longer, decimal_zero}
 
 module _ (limit low : ℕ) (ends : ℕ → ℕ → Bool) (range : IsRange limit low ends) where

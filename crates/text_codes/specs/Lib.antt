@@ -4,3 +4,5 @@ pub mod Lists
 pub mod Numbers
 pub mod Endings
 pub mod Stops
+pub mod Names
+pub mod Laws

@@ -1,7 +1,6 @@
 -- Decimal numbers in texts, each with the byte that ends it.
-use Rattle.std.specs.Prelude.{◌≡◌, ℕ, ◌+◌, ◌*◌, ◌<◌, ◌≤◌, ◌^◌, suc, Bool, true, false, ◌&&◌, nat_lt, nat_le, if◌then◌else◌, MatchBool, List, [], ◌∷◌, ◌++◌, Ok, Err, decimal}
+use Rattle.std.specs.Prelude.{◌≡◌, ℕ, ◌+◌, ◌*◌, ◌<◌, ◌≤◌, ◌^◌, Bool, true, false, ◌&&◌, nat_lt, nat_le, if◌then◌else◌, MatchBool, List, [], ◌∷◌, ◌++◌, Ok, Err, decimal}
 use Rattle.std.specs.Char.{digit_value}
-use Rattle.outcomes.specs.Firsts.{◌>>=◌}
 use Rattle.text_codes.specs.Readers.{Reading, made_at, choose_at}
 
 -- a number and the byte that ends it

@@ -1,11 +1,9 @@
 //! Decimal numbers with the byte that ends them.
-ghost use Rattle.std.specs.Prelude.{◌≡◌, ◌+◌, ◌*◌, ◌<◌, ◌≤◌, ◌^◌, IfOk};
+ghost use Rattle.std.specs.Prelude.{◌≡◌, ◌+◌, ◌*◌, ◌<◌, ◌≤◌, ◌^◌, IfOk, MatchBool};
 ghost use Rattle.std.specs.Char.{digit_value};
 ghost use Rattle.text_codes.specs.Endings.{may_end};
-ghost use Rattle.text_codes.specs.Numbers.{digits_at, goes_on, number_at};
-ghost use Rattle.text_codes.specs.Stops.{Gives};
-
-use crate::stop::Stop;
+ghost use Rattle.text_codes.specs.Numbers.{digits_at, goes_on, number_at, signed_at};
+ghost use Rattle.text_codes.specs.Stops.{Tells};
 
 /// The byte that may end a number.
 #[derive(Clone, Copy, Debug, PartialEq, Eq)]
@@ -48,14 +46,9 @@ fn goes_on(greatest: u64, n: u64, byte: u8) -> bool
 
 /// The rest of a number, of which the digits of `n` were read.
 #[tactic(auto, unfolding(crate::specs::Numbers::digits_at))]
-fn digits(
-    text: &[u8],
-    greatest: u64,
-    n: u64,
-    ending: Ending,
-) -> Result<((u64, u8), &[u8]), Stop<'_>>
+fn digits(text: &[u8], greatest: u64, n: u64, ending: Ending) -> Result<((u64, u8), &[u8]), &[u8]>
     requires { n ≤ greatest }
-    ensures gives { Gives (λ x. (x.0, x.1.now)) result (digits_at (greatest + 1) (may_end ending) n text.now) }
+    ensures tells { Tells (λ x. (x.0, x.1.now)) result (digits_at (greatest + 1) (may_end ending) n text.now) }
     ensures below { IfOk result (λ x. x.0.0 ≤ greatest) }
 {
     let mut value = n;
@@ -67,10 +60,10 @@ fn digits(
         } else if may_end(ending, value, *byte) {
             return Ok(((value, *byte), after));
         } else {
-            return Err(Stop::At(rest));
+            return Err(rest);
         }
     }
-    Err(Stop::At(rest))
+    Err(rest)
 }
 
 /// A number from `least` on, of at most `greatest`, and the byte that ends it.
@@ -80,20 +73,45 @@ pub fn number(
     greatest: u64,
     least: u8,
     ending: Ending,
-) -> Result<((u64, u8), &[u8]), Stop<'_>>
+) -> Result<((u64, u8), &[u8]), &[u8]>
     requires { 9 ≤ greatest }
-    ensures gives { Gives (λ x. (x.0, x.1.now)) result (number_at (greatest + 1) least (may_end ending) text.now) }
+    ensures tells { Tells (λ x. (x.0, x.1.now)) result (number_at (greatest + 1) least (may_end ending) text.now) }
     ensures below { IfOk result (λ x. x.0.0 ≤ greatest) }
 {
     match text {
-        [] => Err(Stop::At(text)),
+        [] => Err(text),
         [byte, after @ ..] => {
             let d = digit(*byte);
             if d < 10 && least <= d {
                 digits(after, greatest, u64::from(d), ending)
             } else {
-                Err(Stop::At(text))
+                Err(text)
             }
+        }
+    }
+}
+
+/// A number with its sign, true for a negative one, and the byte that ends it: down to minus `below`, up
+/// to `above`.
+pub fn signed(
+    text: &[u8],
+    below: u64,
+    above: u64,
+    ending: Ending,
+) -> Result<((bool, (u64, u8)), &[u8]), &[u8]>
+    requires low { 9 ≤ below }
+    requires high { 9 ≤ above }
+    ensures tells { Tells (λ x. (x.0, x.1.now)) result (signed_at (below + 1) (above + 1) (may_end ending) text.now) }
+    ensures below { IfOk result (λ x. MatchBool x.0.0 (x.0.1.0 ≤ below) (x.0.1.0 ≤ above)) }
+{
+    match text {
+        [b'-', after @ ..] => {
+            let (found, rest) = number(after, below, 1, ending)?;
+            Ok(((true, found), rest))
+        }
+        _ => {
+            let (found, rest) = number(text, above, 0, ending)?;
+            Ok(((false, found), rest))
         }
     }
 }

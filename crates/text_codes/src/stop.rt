@@ -16,3 +16,14 @@ impl From<AllocError> for Stop<'_> {
         Stop::Memory
     }
 }
+
+impl<'t> From<&'t [u8]> for Stop<'t> {
+    ghost use Rattle.std.specs.Prelude.{◌≡◌};
+    ghost use Rattle.text_codes.specs.declared.stop.Stop.TheVariants.{At};
+
+    ghost from_gives = { λ left stop. stop ≡ At left };
+
+    fn from(left: &'t [u8]) -> Self {
+        Stop::At(left)
+    }
+}

@@ -1,4 +1,4 @@
-use Rattle.std.proofs.Common.{◌≡◌, ◌+◌, ◌≤◌, ℕ, length}
+use Rattle.std.proofs.Common.{◌≡◌, ◌+◌, ◌≤◌, length}
 use Rattle.text_codes.specs.Endings.{may_end}
 use Rattle.text_codes.specs.Numbers.{digits_at}
 use Rattle.text_codes.proofs.numbers.digits.Given as goal
