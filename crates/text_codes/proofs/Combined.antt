@@ -1,13 +1,13 @@
 -- Words, pairs and lists of what is read rightly are read rightly.
-use Rattle.std.proofs.Common.{◌≡◌, ℕ, suc, zero, List, [], ◌∷◌, ◌++◌, length, true, false, eqb, cond, Ok, Err, refl, sym, ap, ◌∙◌, subst, arith}
+use Rattle.std.proofs.Common.{◌≡◌, ℕ, suc, zero, ◌+◌, ◌<◌, ◌≤◌, ◌^◌, List, [], ◌∷◌, ◌++◌, length, true, false, eqb, cond, Ok, Err, refl, sym, ap, ◌∙◌, subst, arith}
 use Rattle.std.specs.List.{AllByRecursion}
 use Rattle.std.proofs.lemmas.Bool.{eqb-true, eqb-false}
 use Rattle.std.proofs.lemmas.List.{append-nil}
 use Rattle.outcomes.specs.Firsts.{◌>>=◌}
 use Rattle.text_codes.specs.Codes.{IsWrong, IsRead, Reads}
-use Rattle.text_codes.specs.Lists.{texts_of, line_of, AreListed}
-use Rattle.text_codes.specs.Readers.{Reading, word_at, behind, pair_at, made_at, then_at, times_at, counted_at, line_at, counted_line_at}
-use Rattle.text_codes.proofs.Chains.{free, some, With, chain_at, Alike, alike_at}
+use Rattle.text_codes.specs.Lists.{texts_of, line_of, AreListed, numbered_of, EachNumbered}
+use Rattle.text_codes.specs.Readers.{Reading, word_at, behind, pair_at, made_at, then_at, times_at, counted_at, line_at, counted_line_at, numbered_at}
+use Rattle.text_codes.proofs.Chains.{free, some, With, chain_at, Alike, alike_at, made_pair}
 
 -- a condition in other words
 
@@ -294,3 +294,34 @@ pub counted_line_reads : {V : Type 0} (c : ℕ → List ℕ) (C : ℕ → Type 0
     (r : ℕ → List ℕ → Reading V) → Reads c C count → Reads (f 10) F (r 10) → Reads (f 32) F (r 32)
     → Reads (λ vs. c (length vs) ++ line_of f vs) (λ vs. C (length vs) × AllByRecursion F vs) (counted_line_at count r)
 counted_line_reads c C count f F r rc last each = counted_by c C count (line_of f) F (line_at r) rc (line_reads f F r last each)
+
+-- values that are numbered
+
+none_numbered : {V : Type 0} (F : ℕ → V → Type 0) (first : ℕ) (vs : List V) → EachNumbered F first vs × (length vs ≡ 0) → vs ≡ []
+none_numbered F first [] h = refl
+none_numbered F first (v ∷ vs) h = absurd (omega (arith, h.1))
+
+pub numbered_reads : {V : Type 0} (f : ℕ → V → List ℕ) (F : ℕ → V → Type 0) (r : ℕ → List ℕ → Reading V) → ((i : ℕ) → i < 2 ^ 64 → Reads (f i) (F i) (r i))
+    → (first n : ℕ) → first + n ≤ 2 ^ 64 → Reads (numbered_of f first) (λ vs. EachNumbered F first vs × (length vs ≡ n)) (numbered_at r first n)
+unfolding numbered_at numbered_of
+numbered_reads f F r rd first zero low = record {
+  right = λ text. record {
+    fits = (tt, refl);
+    parts = refl;
+    only = λ w y h e. let is = none_numbered F first w h in (is, sym (e ∙ ap (λ (t : List _). numbered_of f first t ++ y) is));
+  };
+}
+numbered_reads {V = V} f F r rd first (suc n) low = record {
+  right = λ (text : List ℕ).
+      subst (IsRead (numbered_of f first) (λ vs. EachNumbered F first vs × (length vs ≡ suc n)) text) (made_pair listed (r first text) (λ x. numbered_at r (suc first) n x.1))
+      ((made_reads (numbered_of f first) (λ vs. EachNumbered F first vs × (length vs ≡ suc n)) (λ (p : V × List V). f first p.0 ++ numbered_of f (suc first) p.1)
+      (Both (F first) (λ vs. EachNumbered F (suc first) vs × (length vs ≡ n))) listed (pair_at (r first) (numbered_at r (suc first) n))
+      (record { text = λ u h. refl; fits = λ u h. ((h.0, h.1.0), ap suc h.1.1); from = from })
+      (pair_reads (f first) (F first) (numbered_of f (suc first)) _ (r first) (numbered_at r (suc first) n) (rd first (omega arith))
+      (numbered_reads f F r rd (suc first) n (omega arith)))).right text);
+}
+  where
+    from : (vs : List V) → EachNumbered F first vs × (length vs ≡ suc n)
+        → (u : V × List V) × (Both (F first) (λ vs. EachNumbered F (suc first) vs × (length vs ≡ n)) u × (listed u ≡ vs))
+    from [] h = absurd (omega (arith, h.1))
+    from (v ∷ vs) h = ((v, vs), ((h.0.0, (h.0.1, omega (arith, h.1))), refl))

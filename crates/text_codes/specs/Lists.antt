@@ -1,5 +1,5 @@
 -- Lists of values in texts.
-use Rattle.std.specs.Prelude.{◌≡◌, ℕ, List, [], ◌∷◌, ◌++◌, length}
+use Rattle.std.specs.Prelude.{◌≡◌, ℕ, suc, List, [], ◌∷◌, ◌++◌, length}
 use Rattle.std.specs.List.{AllByRecursion}
 
 -- the texts of values, one behind another
@@ -25,3 +25,13 @@ until f end (v ∷ vs) = f v ++ until f end vs
 -- so many values, each of this kind
 abbrev pub AreListed : {V : Type 0} → (V → Type 0) → ℕ → List V → Type 0
 AreListed F n vs = AllByRecursion F vs × (length vs ≡ n)
+
+-- the texts of values that are numbered from a first number on
+unfoldable pub numbered_of : {V : Type 0} → (ℕ → V → List ℕ) → ℕ → List V → List ℕ
+numbered_of f first [] = []
+numbered_of f first (v ∷ vs) = f first v ++ numbered_of f (suc first) vs
+
+-- each of these is as its number asks, numbered from a first number on
+abbrev pub EachNumbered : {V : Type 0} → (ℕ → V → Type 0) → ℕ → List V → Type 0
+EachNumbered F first [] = Unit {0}
+EachNumbered F first (v ∷ vs) = F first v × EachNumbered F (suc first) vs

@@ -75,3 +75,14 @@ further (Err left) (Err rest) = if nat_lt (length rest) (length left) then Err r
 unfoldable pub names_at : ℕ → List (List ℕ) → List ℕ → Reading ℕ
 names_at n [] text = Err text
 names_at n (name ∷ names) text = further (made_at (λ (u : Unit {0}). n) (word_at name) text) (names_at (suc n) names text)
+
+-- behind the first byte, by the reader that this byte has
+abbrev pub letters_at : {V : Type 0} → List (ℕ × (List ℕ → Reading V)) → List ℕ → Reading V
+letters_at [] text = Err text
+letters_at (kind ∷ kinds) [] = Err []
+letters_at (kind ∷ kinds) (b ∷ text) = if b == kind.0 then kind.1 text else letters_at kinds (b ∷ text)
+
+-- so many values, numbered from a first number on
+unfoldable pub numbered_at : {V : Type 0} → (ℕ → List ℕ → Reading V) → ℕ → ℕ → List ℕ → Reading (List V)
+numbered_at r first zero text = Ok ([], text)
+numbered_at r first (suc n) text = r first text >>= λ x. (numbered_at r (suc first) n x.1 >>= λ y. Ok (x.0 ∷ y.0, y.1))
