@@ -58,7 +58,7 @@ apart (a ∷ xs) (b ∷ ys) x y h e = each (λ u v. apart xs ys x y u v) (eqb a 
     each again false is = eqb-false a b is (heads a b (xs ++ x) (ys ++ y) e)
 
 -- the name of a number against one before it
-apart_from : (f : ℕ → List ℕ) (name : List ℕ) (n : ℕ) (names : List (List ℕ)) → AreNames f n names
+pub apart_from : (f : ℕ → List ℕ) (name : List ℕ) (n : ℕ) (names : List (List ℕ)) → AreNames f n names
     → list_all (λ other. not (begins_either name other)) names ≡ true
     → (m : ℕ) → IsAmong n (length names) m → (x y : List ℕ) → name ++ x ≡ f m ++ y → ⊥
 apart_from f name n [] are h m among x y e = omega (arith, among.0, among.1)

@@ -1,0 +1,4 @@
+pub mod FieldTexts
+pub mod ProductTexts
+pub mod StepTexts
+pub mod TreeTexts

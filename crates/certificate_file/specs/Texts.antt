@@ -1,0 +1,47 @@
+-- The text of a certificate, and what a text that is none is told.
+use Rattle.std.specs.Prelude.{◌≡◌, ℕ, zero, suc, ◌<◌, ◌==◌, if◌then◌else◌, List, [], ◌∷◌, ◌++◌, length, codes}
+use Rattle.certificate_file.specs.declared.certificate.Certificate.{Certificate}
+use Rattle.text_codes.specs.Lists.{EachNumbered, numbered_of}
+use Rattle.certificate_file.specs.Numbers.{newline, number_text, IsU64, lines_text, AreCounted}
+use Rattle.certificate_file.specs.Products.{node_text, NodeFits, edge_text, EdgeFits}
+use Rattle.certificate_file.specs.Trees.{tree_text, TreeFits}
+
+-- the text of a certificate
+abbrev pub certificate_text : Certificate → List ℕ
+certificate_text c =
+    codes "align-certificate 1\nnodes " ++ ((number_text newline (length c.product.nodes) ++ numbered_of node_text 0 c.product.nodes)
+    ++ (codes "edges " ++ (lines_text edge_text c.product.edges
+    ++ (codes "duties " ++ (lines_text tree_text c.trees
+    ++ codes "end\n")))))
+
+-- a certificate that has a text: each part of it in its range
+abbrev pub CertificateFits : Certificate → Type 0
+CertificateFits c =
+    (IsU64 (length c.product.nodes) × EachNumbered NodeFits 0 c.product.nodes)
+    × (AreCounted EdgeFits c.product.edges × AreCounted (TreeFits 16) c.trees)
+
+-- the front of the text of some certificate
+pub record IsFront (text : List ℕ) : Type 0 where
+  pub certificate : Certificate
+  pub fits : CertificateFits certificate
+  pub rest : List ℕ
+  pub begins : certificate_text certificate ≡ text ++ rest
+
+-- a front that is not the whole
+pub record IsTruncated (text : List ℕ) : Type 0 where
+  pub certificate : Certificate
+  pub fits : CertificateFits certificate
+  pub next : ℕ
+  pub rest : List ℕ
+  pub begins : certificate_text certificate ≡ text ++ next ∷ rest
+
+-- the first lines of a text, each with its newline where it has one
+abbrev pub first_lines : ℕ → List ℕ → List ℕ
+first_lines zero text = []
+first_lines (suc n) [] = []
+first_lines (suc n) (b ∷ text) = if b == 10 then b ∷ first_lines n text else b ∷ first_lines (suc n) text
+
+-- the first line up to whose end the text is the front of no certificate's text
+pub record IsBadLine (text : List ℕ) (line : ℕ) : Type 0 where
+  pub wrong : IsFront (first_lines line text) → ⊥
+  pub least : (n : ℕ) → n < line → IsFront (first_lines n text)

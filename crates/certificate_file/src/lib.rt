@@ -1,0 +1,6 @@
+//! The text of a certificate.
+#![tactic(auto)]
+
+mod certificate;
+
+pub use certificate::Certificate;
