@@ -2,3 +2,4 @@ pub mod FieldTexts
 pub mod ProductTexts
 pub mod StepTexts
 pub mod TreeTexts
+pub mod Fronts

@@ -98,3 +98,7 @@ edge_at text =
     made_at (λ (p : ℕ × (ℕ × (List ℕ × List ℕ))). record { from = p.0; to = p.1.0; left = p.1.1.0; right = p.1.1.1 })
     (behind (codes "edge ") (pair_at (u32_at space) (pair_at (u32_at newline)
     (behind (codes "left ") (pair_at path_at (behind (codes "right ") path_at)))))) text
+
+-- the byte that ends a value of a line, of which so many are to come with this one
+abbrev pub end_at : ℕ → ℕ
+end_at n = if n == 1 then newline else space

@@ -2,5 +2,8 @@
 #![tactic(auto)]
 
 mod certificate;
+mod fields;
+mod listed;
+mod product_lines;
 
 pub use certificate::Certificate;

@@ -1,5 +1,5 @@
 //! Decimal numbers with the byte that ends them.
-ghost use Rattle.std.specs.Prelude.{◌≡◌, ◌+◌, ◌*◌, ◌<◌, ◌≤◌, ◌^◌, IfOk, MatchBool};
+ghost use Rattle.std.specs.Prelude.{◌≡◌, ◌+◌, ◌*◌, ◌<◌, ◌≤◌, ◌^◌, IfOk, IsTrue, MatchBool};
 ghost use Rattle.std.specs.Char.{digit_value};
 ghost use Rattle.text_codes.specs.Endings.{may_end};
 ghost use Rattle.text_codes.specs.Numbers.{digits_at, goes_on, number_at, signed_at};
@@ -50,6 +50,7 @@ fn digits(text: &[u8], greatest: u64, n: u64, ending: Ending) -> Result<((u64, u
     requires { n ≤ greatest }
     ensures tells { Tells (λ x. (x.0, x.1.now)) result (digits_at (greatest + 1) (may_end ending) n text.now) }
     ensures below { IfOk result (λ x. x.0.0 ≤ greatest) }
+    ensures least { IfOk result (λ x. n ≤ x.0.0) }
 {
     let mut value = n;
     let mut rest = text;
@@ -77,6 +78,7 @@ pub fn number(
     requires { 9 ≤ greatest }
     ensures tells { Tells (λ x. (x.0, x.1.now)) result (number_at (greatest + 1) least (may_end ending) text.now) }
     ensures below { IfOk result (λ x. x.0.0 ≤ greatest) }
+    ensures least { IfOk result (λ x. least ≤ x.0.0) }
 {
     match text {
         [] => Err(text),
@@ -103,6 +105,7 @@ pub fn signed(
     requires high { 9 ≤ above }
     ensures tells { Tells (λ x. (x.0, x.1.now)) result (signed_at (below + 1) (above + 1) (may_end ending) text.now) }
     ensures below { IfOk result (λ x. MatchBool x.0.0 (x.0.1.0 ≤ below) (x.0.1.0 ≤ above)) }
+    ensures least { IfOk result (λ x. IsTrue x.0.0 → 1 ≤ x.0.1.0) }
 {
     match text {
         [b'-', after @ ..] => {

@@ -12,6 +12,11 @@ pub enum Stop<'t> {
 }
 
 impl From<AllocError> for Stop<'_> {
+    ghost use Rattle.std.specs.Prelude.{◌≡◌};
+    ghost use Rattle.text_codes.specs.declared.stop.Stop.TheVariants as stops;
+
+    ghost from_gives = { λ _ stop. stop ≡ stops.Memory };
+
     fn from(_error: AllocError) -> Self {
         Stop::Memory
     }
