@@ -6,7 +6,7 @@ use Rattle.certificate_file.specs.ProductReading.{end_at}
 use Rattle.outcomes.specs.Firsts.{◌>>=◌}
 use Rattle.std.specs.Prelude.{Result, IsErrAnd}
 use Rattle.std.specs.Borrow.{Bor}
-use Rattle.text_codes.specs.Readers.{Reading, times_at, line_at}
+use Rattle.text_codes.specs.Readers.{Reading, times_at, line_at, numbered_at}
 use Rattle.text_codes.specs.Stops.{Gives, StopsAt}
 use Rattle.text_codes.specs.declared.stop.Stop.{Stop}
 use Rattle.text_codes.specs.declared.stop.Stop.TheVariants.{Memory, At}
@@ -24,13 +24,13 @@ unfolding with_front
 front_none (Ok y) = refl
 front_none (Err left) = refl
 
-front_more : {V : Type 0} (vs : List V) (v : V) (q : Reading (List V))
+pub front_more : {V : Type 0} (vs : List V) (v : V) (q : Reading (List V))
     → with_front vs (q >>= λ (y : List V × List ℕ). let z : List V × List ℕ = (v ∷ y.0, y.1) in Ok z) ≡ with_front (vs ++ v ∷ []) q
 unfolding with_front
 front_more {V = V} vs v (Ok y) = ap (λ (t : List V). let z : List V × List ℕ = (t, y.1) in Ok z) (sym (append_assoc vs (v ∷ []) y.0))
 front_more vs v (Err left) = refl
 
-front_all : {V : Type 0} (vs : List V) (rest : List ℕ) → with_front vs (Ok ([], rest)) ≡ Ok (vs, rest)
+pub front_all : {V : Type 0} (vs : List V) (rest : List ℕ) → with_front vs (Ok ([], rest)) ≡ Ok (vs, rest)
 unfolding with_front
 front_all {V = V} vs rest = ap (λ (t : List V). let z : List V × List ℕ = (t, rest) in Ok z) (append-nil vs)
 
@@ -119,3 +119,52 @@ pub left_whole : {X W : Type 0} (view : X → W × List ℕ) (result : Result X 
     → IsErrAnd result (λ e. e ≡ At left) → whole ≡ Err left.now → Gives view result whole
 left_whole view (Ok x) left whole is at = absurd is
 left_whole view (Err e) left whole is at = subst (λ (s : Stop). StopsAt s whole) (sym is) at
+
+-- numbered values
+
+numbered_step : {V : Type 0} (r : ℕ → List ℕ → Reading V) (vs : List V) (i k : ℕ) (rest : List ℕ) (q : Reading V) → r i rest ≡ q
+    → with_front vs (numbered_at r i (suc k) rest)
+    ≡ with_front vs (q >>= λ (x : V × List ℕ). (numbered_at r (suc i) k x.1 >>= λ (y : List V × List ℕ). let z : List V × List ℕ = (x.0 ∷ y.0, y.1) in Ok z))
+unfolding numbered_at
+numbered_step {V = V} r vs i k rest q e =
+    ap (λ (q : Reading V). with_front vs (q >>= λ (x : V × List ℕ). (numbered_at r (suc i) k x.1 >>= λ (y : List V × List ℕ). let z : List V × List ℕ = (x.0 ∷ y.0, y.1) in Ok z))) e
+
+count_down : (n i : ℕ) → i < n → n - i ≡ suc (n - (i + 1))
+count_down n i h = omega arith
+
+next_is : (i : ℕ) → suc i ≡ i + 1
+next_is i = omega arith
+
+pub numbered_more : {V : Type 0} (r : ℕ → List ℕ → Reading V) (vs : List V) (i n : ℕ) (rest after : List ℕ) (v : V) → i < n → r i rest ≡ Ok (v, after)
+    → with_front vs (numbered_at r i (n - i) rest) ≡ with_front (vs ++ v ∷ []) (numbered_at r (i + 1) (n - (i + 1)) after)
+numbered_more {V = V} r vs i n rest after v some e =
+    ap (λ (k : ℕ). with_front vs (numbered_at r i k rest)) (count_down n i some)
+    ∙ (numbered_step r vs i (n - (i + 1)) rest (Ok (v, after)) e
+    ∙ (front_more vs v (numbered_at r (suc i) (n - (i + 1)) after)
+    ∙ ap (λ (k : ℕ). with_front (vs ++ v ∷ []) (numbered_at r k (n - (i + 1)) after)) (next_is i)))
+
+pub numbered_fails : {V : Type 0} (r : ℕ → List ℕ → Reading V) (vs : List V) (i n : ℕ) (rest left : List ℕ) → i < n → r i rest ≡ Err left
+    → with_front vs (numbered_at r i (n - i) rest) ≡ Err left
+numbered_fails {V = V} r vs i n rest left some e =
+    ap (λ (k : ℕ). with_front vs (numbered_at r i k rest)) (count_down n i some)
+    ∙ (numbered_step r vs i (n - (i + 1)) rest (Err left) e ∙ front_fails vs left)
+
+none_left : (n i : ℕ) → n ≤ i → n - i ≡ 0
+none_left n i h = omega arith
+
+pub numbered_done : {V : Type 0} (r : ℕ → List ℕ → Reading V) (vs : List V) (i n : ℕ) (rest : List ℕ) → n ≤ i
+    → with_front vs (numbered_at r i (n - i) rest) ≡ Ok (vs, rest)
+unfolding numbered_at
+numbered_done r vs i n rest none = ap (λ (k : ℕ). with_front vs (numbered_at r i k rest)) (none_left n i none) ∙ front_all vs rest
+
+all_to_come : (n : ℕ) → n - 0 ≡ n
+all_to_come n = omega arith
+
+pub numbered_start : {V : Type 0} (r : ℕ → List ℕ → Reading V) (vs : List V) (n : ℕ) (text : List ℕ) → vs ≡ []
+    → with_front vs (numbered_at r 0 (n - 0) text) ≡ numbered_at r 0 n text
+numbered_start {V = V} r vs n text none =
+    ap (λ (us : List V). with_front us (numbered_at r 0 (n - 0) text)) none ∙ (front_none (numbered_at r 0 (n - 0) text) ∙ ap (λ (k : ℕ). numbered_at r 0 k text) (all_to_come n))
+
+-- the same, where both texts read alike
+pub gives_same : {X W : Type 0} (view : X → W × List ℕ) (result : Result X Stop) (whole part : Reading W) → whole ≡ part → Gives view result part → Gives view result whole
+gives_same view result whole part e h = subst (λ (q : Reading _). Gives view result q) (sym e) h

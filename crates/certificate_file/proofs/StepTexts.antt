@@ -63,10 +63,10 @@ integer_reads low high end ll lh hl hh apart =
 -- the literals of a chain
 
 -- a literal, or 0
-abbrev IsNumbered : Lit → Type 0
+abbrev pub IsNumbered : Lit → Type 0
 IsNumbered l = (l.neg ≡ true → 1 ≤ l.var) × IsU32 l.var
 
-lit_reads : Reads lit_text IsNumbered lit_at
+pub lit_reads : Reads lit_text IsNumbered lit_at
 lit_reads =
     made_reads lit_text IsNumbered signed_text (IsSigned (2 ^ 32) (2 ^ 32) (may_end (By space))) (λ (v : Bool × (ℕ × ℕ)). record { var = v.1.0; neg = v.0 }) _
     (record { text = λ u h. text u.0 u.1 h; fits = λ u h. fits u.0 u.1 h; from = λ l h. ((l.neg, (l.var, 32)), (from l.neg l.var h, refl)) })
@@ -92,12 +92,19 @@ all_along F G h (v ∷ vs) all = (h v all.0, all_along F G h vs all.1)
 some_text : (end n : ℕ) (front : List ℕ) → 0 < length (front ++ number_text end n)
 some_text end n front = omega (arith, length-append front (number_text end n), length-append (decimal n) (end ∷ []))
 
+pub lit_filled : (a : Lit) → IsNumbered a → 0 < length (lit_text a)
+lit_filled a h = some (a.neg) a.var
+  where
+    some : (b : Bool) (n : ℕ) → 0 < length (lit_text (record { var = n; neg = b }))
+    some true n = some_text 32 n (45 ∷ [])
+    some false n = some_text 32 n []
+
 lits_reads : Reads (until lit_text no_literal) (AllByRecursion LitFits) lits_at
 lits_reads =
     refit (until lit_text no_literal) (until lit_text no_literal) (AllByRecursion LitFits) (NoneEnds lit_text IsNumbered (λ l. l.var == 0) no_literal lit_at) _ (λ v h. refl)
     (all_along LitFits (λ l. IsNumbered l × ((l.var == 0) ≡ false)) (λ l h. (((λ e. h.0), h.1), ne_eqb l.var 0 (λ e. omega (arith, h.0)))))
     (all_along (λ l. IsNumbered l × ((l.var == 0) ≡ false)) LitFits (λ l h. (above l.var h.1, h.0.1)))
-    (until_reads lit_text IsNumbered (λ l. l.var == 0) no_literal lit_at lit_reads ((λ e. absurd (false≢true e)), omega arith) refl only filled)
+    (until_reads lit_text IsNumbered (λ l. l.var == 0) no_literal lit_at lit_reads ((λ e. absurd (false≢true e)), omega arith) refl only lit_filled)
   where
     above : (n : ℕ) → (n == 0) ≡ false → 1 ≤ n
     above zero e = absurd (true≢false e)
@@ -110,13 +117,6 @@ lits_reads =
     only : (v : Lit) → IsNumbered v → (v.var == 0) ≡ true → v ≡ no_literal
     only v h e = is v.neg v.var h (eqb-true v.var 0 e)
 
-    filled : (a : Lit) → IsNumbered a → 0 < length (lit_text a)
-    filled a h = some (a.neg) a.var
-      where
-        some : (b : Bool) (n : ℕ) → 0 < length (lit_text (record { var = n; neg = b }))
-        some true n = some_text 32 n (45 ∷ [])
-        some false n = some_text 32 n []
-
 -- the clauses of a chain
 
 clause_reads : Reads ended (IsEnded (2 ^ 32) 0 (may_end Either)) clause_at
@@ -128,7 +128,7 @@ either_end n c h = elim (or_cases (eqb c 32) (eqb c 10) h) [ inl a ↦ inl (eqb-
 may_be : (n c : ℕ) → (c ≡ 32) ⊎ (c ≡ 10) → may_end Either n c ≡ true
 may_be n c h = elim h [ inl a ↦ ap (λ (d : ℕ). eqb d 32 || eqb d 10) a | inr b ↦ ap (λ (d : ℕ). eqb d 32 || eqb d 10) b ]
 
-pair_item_reads : Reads (λ (v : (ℕ × ℕ) × ℕ). pair_text v.1 v.0) (λ (v : (ℕ × ℕ) × ℕ). PairFits v.0 × ((v.1 ≡ 32) ⊎ (v.1 ≡ 10))) pair_of_at
+pub pair_item_reads : Reads (λ (v : (ℕ × ℕ) × ℕ). pair_text v.1 v.0) (λ (v : (ℕ × ℕ) × ℕ). PairFits v.0 × ((v.1 ≡ 32) ⊎ (v.1 ≡ 10))) pair_of_at
 pair_item_reads =
     made_reads (λ (v : (ℕ × ℕ) × ℕ). pair_text v.1 v.0) (λ (v : (ℕ × ℕ) × ℕ). PairFits v.0 × ((v.1 ≡ 32) ⊎ (v.1 ≡ 10))) _ _
     (λ (p : ℕ × (ℕ × ℕ)). ((p.0, p.1.0), p.1.1)) _
@@ -139,6 +139,9 @@ pair_item_reads =
     })
     (pair_reads (number_text space) IsU32 ended (IsEnded (2 ^ 32) 0 (may_end Either)) (u32_at space) clause_at (u32_reads space (omega arith)) clause_reads)
 
+pub pair_filled : (v : (ℕ × ℕ) × ℕ) → PairFits v.0 × ((v.1 ≡ 32) ⊎ (v.1 ≡ 10)) → 0 < length (pair_text v.1 v.0)
+pair_filled v h = some_text v.1 v.0.1 (number_text space v.0.0)
+
 abbrev Linked : ℕ × ℕ → List (ℕ × ℕ) → Type 0
 Linked first next = AllByRecursion PairFits next × (first.1 ≡ end_before next)
 
@@ -147,7 +150,7 @@ clauses_reads : Reads (λ (p : (ℕ × ℕ) × List (ℕ × ℕ)). ended p.0 ++ 
 clauses_reads =
     then_reads ended (IsEnded (2 ^ 32) 0 (may_end Either)) (λ first. line_of pair_text) Linked clause_at
     (λ first rest. linked_at pair_of_at (suc (length rest)) first.1 rest) clause_reads
-    (λ a h. linked_reads pair_text PairFits pair_of_at pair_item_reads (λ v f. some_text v.1 v.0.1 (number_text space v.0.0)) a.1 (either_end a.0 a.1 h.last))
+    (λ a h. linked_reads pair_text PairFits pair_of_at pair_item_reads pair_filled a.1 (either_end a.0 a.1 h.last))
 
 -- steps
 

@@ -50,8 +50,12 @@ tree_at (suc depth) text = letters_at ((108, leaf_at) ∷ (115, split_at (tree_a
 abbrev pub nodes_at : List ℕ → Reading (List PNode)
 nodes_at text = made_at (λ (p : ℕ × List PNode). p.1) (then_at (u64_at newline) (numbered_at node_at 0)) text
 
+-- the trees of all duties
+abbrev pub trees_at : List ℕ → Reading (List Tree)
+trees_at text = lines_at (tree_at 16) text
+
 abbrev pub certificate_at : List ℕ → Reading Certificate
 certificate_at text =
     made_at (λ (p : List PNode × (List PEdge × (List Tree × Unit {0}))). record { product = record { nodes = p.0; edges = p.1.0 }; trees = p.1.1.0 })
     (behind (codes "align-certificate 1\nnodes ") (pair_at nodes_at (behind (codes "edges ") (pair_at (lines_at edge_at)
-    (behind (codes "duties ") (pair_at (lines_at (tree_at 16)) (word_at (codes "end\n")))))))) text
+    (behind (codes "duties ") (pair_at trees_at (word_at (codes "end\n")))))))) text

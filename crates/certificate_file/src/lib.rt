@@ -5,5 +5,7 @@ mod certificate;
 mod fields;
 mod listed;
 mod product_lines;
+mod step_lines;
+mod tree_lines;
 
 pub use certificate::Certificate;

@@ -207,7 +207,7 @@ fn numbered(text: &[u8], i: u64) -> Result<&[u8], &[u8]>
 }
 
 /// Node `i`.
-fn node(alloc: Global, text: &[u8], i: u64) -> Result<(PNode, &[u8]), Stop<'_>>
+pub(crate) fn node(alloc: Global, text: &[u8], i: u64) -> Result<(PNode, &[u8]), Stop<'_>>
     ensures { Gives (λ x. (x.0, x.1.now)) result (reading.node_at i text.now) }
 {
     let rest = behind(text, b"node ")?;
