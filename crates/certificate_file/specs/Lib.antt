@@ -6,3 +6,4 @@ pub mod Texts
 pub mod ProductReading
 pub mod StepReading
 pub mod TreeReading
+pub mod Judging

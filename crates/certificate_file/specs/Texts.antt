@@ -1,5 +1,8 @@
 -- The text of a certificate, and what a text that is none is told.
-use Rattle.std.specs.Prelude.{◌≡◌, ℕ, zero, suc, ◌<◌, ◌==◌, if◌then◌else◌, List, [], ◌∷◌, ◌++◌, length, codes}
+use Rattle.std.specs.Prelude.{◌≡◌, ◌⊎◌, ℕ, zero, suc, ◌<◌, ◌-◌, ◌^◌, ◌==◌, min, if◌then◌else◌, List, [], ◌∷◌, ◌++◌, length, codes, Result, Ok, Err}
+use Rattle.text_parts.specs.Numbers.{IsDecimal}
+use Rattle.certificate_file.specs.declared.refusal.CertRefusal.{CertRefusal}
+use Rattle.certificate_file.specs.declared.refusal.CertRefusal.TheVariants.{Version, Truncated, BadLine, Memory}
 use Rattle.certificate_file.specs.declared.certificate.Certificate.{Certificate}
 use Rattle.text_codes.specs.Lists.{EachNumbered, numbered_of}
 use Rattle.certificate_file.specs.Numbers.{newline, number_text, IsU64, lines_text, AreCounted}
@@ -45,3 +48,22 @@ first_lines (suc n) (b ∷ text) = if b == 10 then b ∷ first_lines n text else
 pub record IsBadLine (text : List ℕ) (line : ℕ) : Type 0 where
   pub wrong : IsFront (first_lines line text) → ⊥
   pub least : (n : ℕ) → n < line → IsFront (first_lines n text)
+
+-- the first line names another version: a number other than 1, with no sign and no leading zero, up to the end of the
+-- line or of the text
+pub record IsOtherVersion (text : List ℕ) : Type 0 where
+  pub digits : List ℕ
+  pub rest : List ℕ
+  pub number : ℕ
+  pub spelled : text ≡ codes "align-certificate " ++ (digits ++ rest)
+  pub decimal : IsDecimal digits number
+  pub other : number ≡ 1 → ⊥
+  pub ends : (rest ≡ []) ⊎ ((behind : List ℕ) × (rest ≡ newline ∷ behind))
+
+-- what a text is answered: the certificate whose text it is, or why it is none; lines above 2^32 - 1 are told as that
+abbrev pub IsVerdict : List ℕ → Result Certificate CertRefusal → Type 0
+IsVerdict text (Ok c) = CertificateFits c × (text ≡ certificate_text c)
+IsVerdict text (Err Version) = IsOtherVersion text
+IsVerdict text (Err Truncated) = (IsOtherVersion text → ⊥) × IsTruncated text
+IsVerdict text (Err (BadLine told)) = (IsOtherVersion text → ⊥) × ((line : ℕ) × (IsBadLine text line × (told ≡ min line (2 ^ 32 - 1))))
+IsVerdict text (Err Memory) = Unit {0}

@@ -1,11 +1,14 @@
-//! The text of a certificate.
+//! The text of a certificate: read and written.
 #![tactic(auto)]
 
 mod certificate;
 mod fields;
+mod judging;
 mod listed;
 mod product_lines;
+mod refusal;
 mod step_lines;
 mod tree_lines;
 
 pub use certificate::Certificate;
+pub use refusal::CertRefusal;
