@@ -5,3 +5,6 @@ pub mod TreeTexts
 pub mod Fronts
 pub mod Turns
 pub mod SplitReading
+pub mod LineLaws
+pub mod VersionLaws
+pub mod Verdicts

@@ -1,12 +1,10 @@
 -- Splits, read part by part.
-use Rattle.std.proofs.Common.{◌≡◌, ℕ, suc, zero, ◌-◌, ◌<◌, ◌≤◌, Bool, true, false, cond, eqb, List, [], ◌∷◌, length, get_or, take, drop, Ok, Err, refl, sym, ap, ◌∙◌, subst, arith}
+use Rattle.std.proofs.Common.{◌≡◌, ℕ, suc, zero, ◌-◌, ◌<◌, List, [], ◌∷◌, length, get_or, take, drop, Ok, Err, sym, ap, ◌∙◌, arith}
 use Rattle.std.specs.Prelude.{codes}
-use Rattle.std.proofs.lemmas.Bool.{ne_eqb, eq-eqb}
 use Rattle.std.proofs.lemmas.List.{take_rest}
 use Rattle.outcomes.specs.Firsts.{◌>>=◌}
-use Rattle.refutations.specs.declared.step.Step.{Step}
 use Rattle.refutations.specs.declared.tree.Tree.{Tree}
-use Rattle.refutations.specs.declared.tree.Tree.TheOpen.{Tree-F, Leaf, Split}
+use Rattle.refutations.specs.declared.tree.Tree.TheOpen.{Split}
 use Rattle.refutations.specs.declared.tree.Tree.TheViews.{roll-Tree}
 use Rattle.refutations.specs.declared.tree.Tree.TheVariants.{rolls-Split}
 use Rattle.refutations.specs.declared.tree.Tree.TheVariants as variants
@@ -37,7 +35,7 @@ pub split_ok : (r : List ℕ → Reading Tree) (text r1 r2 r3 : List ℕ) (front
 split_ok r text r1 r2 r3 front kids n e f many g =
     split_front r text r1 r2 front e f
     ∙ (ap (λ (q : Reading (List Tree)). finish (q >>= λ (y : List Tree × List ℕ). let z : (Front × List Tree) × List ℕ = ((front, y.0), y.1) in Ok z))
-        (ap (λ (k : ℕ). times_at r k r2) (sym many) ∙ g)
+    (ap (λ (k : ℕ). times_at r k r2) (sym many) ∙ g)
     ∙ ap (λ (t : Tree). let z : Tree × List ℕ = (t, r3) in Ok z) (rolls-Split front.0 front.1.0 front.1.1.0 (record { steps = front.1.1.1 }) kids))
 
 pub split_stops : (r : List ℕ → Reading Tree) (text r1 r2 left : List ℕ) (front : Front) (n : ℕ) → word_at (codes "plit ") text ≡ Ok (tt, r1)
@@ -45,7 +43,7 @@ pub split_stops : (r : List ℕ → Reading Tree) (text r1 r2 left : List ℕ) (
 split_stops r text r1 r2 left front n e f many g =
     split_front r text r1 r2 front e f
     ∙ ap (λ (q : Reading (List Tree)). finish (q >>= λ (y : List Tree × List ℕ). let z : (Front × List Tree) × List ℕ = ((front, y.0), y.1) in Ok z))
-        (ap (λ (k : ℕ). times_at r k r2) (sym many) ∙ g)
+    (ap (λ (k : ℕ). times_at r k r2) (sym many) ∙ g)
 
 -- a split where one may stand
 pub tree_split : (depth : ℕ) (text : List ℕ) → 0 < length text → get_or text 0 0 ≡ 115 → 0 < depth

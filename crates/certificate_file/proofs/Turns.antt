@@ -1,12 +1,12 @@
 -- Lists that are read up to an end, in turns.
-use Rattle.std.proofs.Common.{◌≡◌, ◌≢◌, ◌⊎◌, ℕ, suc, zero, ◌+◌, ◌-◌, ◌<◌, ◌≤◌, Bool, true, false, List, [], ◌∷◌, ◌++◌, length, cond, eqb, Ok, Err, refl, sym, ap, ◌∙◌, subst, append_assoc, arith}
-use Rattle.std.proofs.lemmas.Bool.{ne_eqb, eqb-false, eq-eqb}
-use Rattle.std.proofs.lemmas.List.{append-nil, length-append}
+use Rattle.std.proofs.Common.{◌≡◌, ℕ, suc, zero, ◌<◌, Bool, true, false, List, [], ◌∷◌, ◌++◌, length, cond, eqb, Ok, Err, refl, ap, ◌∙◌, subst, arith}
+use Rattle.std.proofs.lemmas.Bool.{ne_eqb, eq-eqb}
+use Rattle.std.proofs.lemmas.List.{length-append}
 use Rattle.outcomes.specs.Firsts.{◌>>=◌}
 use Rattle.clauses.specs.declared.clause.Lit.{Lit}
 use Rattle.text_codes.specs.Codes.{IsRead, Reads}
 use Rattle.text_codes.specs.Readers.{Reading, linked_at, until_at}
-use Rattle.certificate_file.specs.StepReading.{lit_at, lits_at, pair_of_at}
+use Rattle.certificate_file.specs.StepReading.{lit_at, pair_of_at}
 use Rattle.certificate_file.proofs.Fronts.{with_front, front_fails, front_more, front_all}
 use Rattle.certificate_file.proofs.StepTexts.{IsNumbered, lit_reads, lit_filled, pair_item_reads, pair_filled}
 
@@ -37,9 +37,9 @@ module _ {U : Type 0} (is_end : U → Bool) (r : List ℕ → Reading U)
   same_until (suc m) zero text low high = absurd (omega arith)
   same_until (suc m) (suc n) text low high =
       bind_same (r text) _ _ (λ x e.
-        let l = short text x.1 x.0 e in
-        ap (λ (p : Reading (List U)). cond {A = Reading (List U)} (is_end x.0) (Ok ([], x.1)) (p >>= λ (y : List U × List ℕ). let z : List U × List ℕ = (x.0 ∷ y.0, y.1) in Ok z))
-          (same_until m n x.1 (omega arith) (omega arith)))
+      let l = short text x.1 x.0 e in
+      ap (λ (p : Reading (List U)). cond {A = Reading (List U)} (is_end x.0) (Ok ([], x.1)) (p >>= λ (y : List U × List ℕ). let z : List U × List ℕ = (x.0 ∷ y.0, y.1) in Ok z))
+      (same_until m n x.1 (omega arith) (omega arith)))
 
   abbrev one_step : ℕ → U × List ℕ → Reading (List U)
   one_step n x = cond (is_end x.0) (Ok ([], x.1)) (until_at is_end r n x.1 >>= λ (y : List U × List ℕ). let z : List U × List ℕ = (x.0 ∷ y.0, y.1) in Ok z)
@@ -79,10 +79,10 @@ module _ {V : Type 0} (r : List ℕ → Reading (V × ℕ))
   same_linked (suc m) zero e text low high = absurd (omega arith)
   same_linked (suc m) (suc n) e text low high =
       ap (λ (q : Reading (List V)). cond {A = Reading (List V)} (eqb e 10) (Ok ([], text)) q)
-        (bind_same (r text) (link m) (link n) (λ x is.
-          let l = short text x.1 x.0 is in
-          ap (λ (p : Reading (List V)). p >>= λ (y : List V × List ℕ). let z : List V × List ℕ = (x.0.0 ∷ y.0, y.1) in Ok z)
-            (same_linked m n x.0.1 x.1 (omega arith) (omega arith))))
+      (bind_same (r text) (link m) (link n) (λ x is.
+      let l = short text x.1 x.0 is in
+      ap (λ (p : Reading (List V)). p >>= λ (y : List V × List ℕ). let z : List V × List ℕ = (x.0.0 ∷ y.0, y.1) in Ok z)
+      (same_linked m n x.0.1 x.1 (omega arith) (omega arith))))
 
   pub linked_more : (vs : List V) (e : ℕ) (rest after : List ℕ) (v : V) (next : ℕ) → (e ≡ 10 → ⊥) → r rest ≡ Ok ((v, next), after)
       → with_front vs (linked_at r (suc (length rest)) e rest) ≡ with_front (vs ++ v ∷ []) (linked_at r (suc (length after)) next after)

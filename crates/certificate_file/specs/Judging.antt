@@ -5,7 +5,7 @@ use Rattle.text_parts.specs.Cuts.{first_part}
 use Rattle.text_parts.specs.Numbers.{capped, decimal_of}
 use Rattle.certificate_file.specs.declared.certificate.Certificate.{Certificate}
 use Rattle.certificate_file.specs.declared.refusal.CertRefusal.{CertRefusal}
-use Rattle.certificate_file.specs.declared.refusal.CertRefusal.TheVariants.{Version, Truncated, BadLine, Memory}
+use Rattle.certificate_file.specs.declared.refusal.CertRefusal.TheVariants.{Version, Truncated, BadLine}
 use Rattle.certificate_file.specs.TreeReading.{certificate_at}
 
 -- whether it is a number other than 1

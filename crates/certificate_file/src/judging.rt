@@ -1,5 +1,7 @@
 //! Reading a certificate.
 ghost use Rattle.std.specs.Prelude.{◌≡◌, ◌⊎◌, Result, Ok, Err};
+ghost use Rattle.certificate_file.specs.declared.certificate.Certificate.{Certificate};
+ghost use Rattle.certificate_file.specs.declared.refusal.CertRefusal.{CertRefusal};
 ghost use Rattle.certificate_file.specs.Judging.{answer_of, is_other_version, line_number, refusal_of};
 ghost use Rattle.certificate_file.specs.Texts.{IsVerdict};
 
@@ -61,4 +63,14 @@ fn answer_of(alloc: Global, text: &[u8]) -> Result<Certificate, CertRefusal>
         Err(Stop::At(left)) => Err(refusal_of(text, left)),
         Err(Stop::Memory) => Err(CertRefusal::Memory),
     }
+}
+
+/// Reads a certificate. A refusal is the first that holds: another version, a front of a certificate, or
+/// the first line that no certificate has there.
+pub fn read_certificate(alloc: Global, text: &[u8]) -> Result<Certificate, CertRefusal>
+    ensures right { IsVerdict text.now result }
+    ensures only { (r : Result Certificate CertRefusal) → IsVerdict text.now r
+        → (r ≡ Err CertRefusal.Memory) ⊎ ((result ≡ Err CertRefusal.Memory) ⊎ (result ≡ r)) }
+{
+    answer_of(alloc, text)
 }

@@ -11,4 +11,5 @@ mod step_lines;
 mod tree_lines;
 
 pub use certificate::Certificate;
+pub use judging::read_certificate;
 pub use refusal::CertRefusal;

@@ -35,7 +35,11 @@ pub(crate) trait Ended: Drop {
 }
 
 /// So many values, one behind another.
-pub(crate) fn times<T: Spelled>(alloc: Global, count: u64, text: &[u8]) -> Result<(Items<T>, &[u8]), Stop<'_>>
+pub(crate) fn times<T: Spelled>(
+    alloc: Global,
+    count: u64,
+    text: &[u8],
+) -> Result<(Items<T>, &[u8]), Stop<'_>>
     ensures { Gives (λ x. (x.0, x.1.now)) result (times_at T.read_at count text.now) }
 {
     let mut found = Items::new(alloc);
@@ -58,7 +62,11 @@ fn end_at(left: u64) -> u8
 }
 
 /// So many values up to the end of the line.
-pub(crate) fn line<T: Ended>(alloc: Global, count: u64, text: &[u8]) -> Result<(Items<T>, &[u8]), Stop<'_>>
+pub(crate) fn line<T: Ended>(
+    alloc: Global,
+    count: u64,
+    text: &[u8],
+) -> Result<(Items<T>, &[u8]), Stop<'_>>
     ensures { Gives (λ x. (x.0, x.1.now)) result (line_at T.read_at count text.now) }
 {
     let mut found = Items::new(alloc);

@@ -123,7 +123,12 @@ fn split(alloc: Global, text: &[u8], depth: u8) -> Result<(Tree, &[u8]), Stop<'_
 
 /// So many trees.
 #[cycle(trees)]
-fn trees(alloc: Global, count: u64, text: &[u8], depth: u8) -> Result<(Items<Tree>, &[u8]), Stop<'_>>
+fn trees(
+    alloc: Global,
+    count: u64,
+    text: &[u8],
+    depth: u8,
+) -> Result<(Items<Tree>, &[u8]), Stop<'_>>
     ensures { Gives (λ x. (x.0, x.1.now)) result (times_at (reading.tree_at depth) count text.now) }
 {
     let mut found = Items::new(alloc);

@@ -10,7 +10,7 @@ pub returns-in_err-value : goal.returns-in_err-value
 returns-in_err-value g c =
     let at = ap (λ (b : ℕ). g.T.Ended.read_at b c.loop-left.rest.now) (sym c.end_at.ensures) ∙ c.in_err-value.ensures in
     left_whole _ _ c.in_err-value.field-0.0 _ c.from_residual.ensures.1
-      (sym c.loop-left.invariant ∙ line_fails g.T.Ended.read_at c.loop-left.found c.loop-left.left c.loop-left.rest.now c.in_err-value.field-0.0.now c.loop-left-test.true at)
+    (sym c.loop-left.invariant ∙ line_fails g.T.Ended.read_at c.loop-left.found c.loop-left.left c.loop-left.rest.now c.in_err-value.field-0.0.now c.loop-left-test.true at)
 
 pub returns-in_err-push : goal.returns-in_err-push
 returns-in_err-push g c = no_memory _ _ _ c.from_residual-in_err-push.ensures.1

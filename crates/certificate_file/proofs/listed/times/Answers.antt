@@ -9,7 +9,7 @@ loop-left-init g c = ap (λ vs. with_front vs (times_at g.T.Spelled.read_at c.ar
 pub returns-in_err-value : goal.returns-in_err-value
 returns-in_err-value g c =
     stops_whole _ _ c.in_err-value.field-0.0 _ _ c.from_residual.ensures.1 c.in_err-value.ensures
-      (λ left e. sym c.loop-left.invariant ∙ times_fails g.T.Spelled.read_at c.loop-left.found c.loop-left.left c.loop-left.rest.now left c.loop-left-test.true e)
+    (λ left e. sym c.loop-left.invariant ∙ times_fails g.T.Spelled.read_at c.loop-left.found c.loop-left.left c.loop-left.rest.now left c.loop-left-test.true e)
 
 pub returns-in_err-push : goal.returns-in_err-push
 returns-in_err-push g c = no_memory _ _ _ c.from_residual-in_err-push.ensures.1

@@ -1,7 +1,7 @@
-use Rattle.std.proofs.Common.{◌≡◌, ℕ, suc, length, ap, sym, ◌∙◌}
+use Rattle.std.proofs.Common.{suc, length, ap, sym, ◌∙◌}
 use Rattle.text_codes.specs.Readers.{linked_at}
 use Rattle.certificate_file.specs.StepReading.{pair_of_at}
-use Rattle.certificate_file.proofs.Fronts.{with_front, front_none, left_whole, no_memory}
+use Rattle.certificate_file.proofs.Fronts.{with_front, front_none, left_whole}
 use Rattle.certificate_file.proofs.Turns.{pair_shorter, linked_more, linked_done, linked_fails}
 use Rattle.certificate_file.proofs.step_lines.pairs.Goals as goal
 
@@ -11,8 +11,8 @@ loop-last-init c = ap (λ vs. with_front vs (linked_at pair_of_at (suc (length c
 pub returns-in_err-next : goal.returns-in_err-next
 returns-in_err-next c =
     left_whole _ _ c.in_err-next.field-0.0 _ c.from_residual.ensures.1
-      (sym c.loop-last.invariant ∙ linked_fails pair_of_at pair_shorter c.loop-last.found c.loop-last.last c.loop-last.rest.now c.in_err-next.field-0.0.now
-        c.loop-last-test.true c.in_err-next.ensures)
+    (sym c.loop-last.invariant ∙ linked_fails pair_of_at pair_shorter c.loop-last.found c.loop-last.last c.loop-last.rest.now c.in_err-next.field-0.0.now
+    c.loop-last-test.true c.in_err-next.ensures)
 
 pub loop-last-smaller : goal.loop-last-smaller
 loop-last-smaller c = pair_shorter c.loop-last.rest.now c.in_ok-next.after.now (c.in_ok-next.next, c.in_ok-next.end) c.in_ok-next.ensures
@@ -21,7 +21,7 @@ pub loop-last-preserved : goal.loop-last-preserved
 loop-last-preserved c =
     ap (λ vs. with_front vs (linked_at pair_of_at (suc (length c.in_ok-next.after.now)) c.in_ok-next.end c.in_ok-next.after.now)) c.in_ok-push.ensures.ok
     ∙ (sym (linked_more pair_of_at pair_shorter c.loop-last.found c.loop-last.last c.loop-last.rest.now c.in_ok-next.after.now c.in_ok-next.next c.in_ok-next.end
-        c.loop-last-test.true c.in_ok-next.ensures)
+    c.loop-last-test.true c.in_ok-next.ensures)
     ∙ c.loop-last.invariant)
 
 pub returns : goal.returns

@@ -10,13 +10,15 @@ loop-number-init c = (numbered_start node_at c.new-found.result c.args.count c.a
 pub returns-in_err-node : goal.returns-in_err-node
 returns-in_err-node c =
     stops_whole _ _ c.in_err-node.field-0.0 _ _ c.from_residual.ensures.1 c.in_err-node.ensures
-      (λ left e. sym c.loop-number.invariant.0 ∙ numbered_fails node_at c.loop-number.found c.loop-number.number c.args.count c.loop-number.rest.now left c.loop-number-test.true e)
+    (λ left e. sym c.loop-number.invariant.0 ∙ numbered_fails node_at c.loop-number.found c.loop-number.number c.args.count c.loop-number.rest.now left c.loop-number-test.true e)
 
 pub loop-number-preserved : goal.loop-number-preserved
-loop-number-preserved c =
-    (ap (λ vs. with_front vs (numbered_at node_at (c.loop-number.number + 1) (c.args.count - (c.loop-number.number + 1)) c.in_ok-node.after.now)) c.in_ok-push.ensures.ok
-    ∙ (sym (numbered_more node_at c.loop-number.found c.loop-number.number c.args.count c.loop-number.rest.now c.in_ok-node.after.now c.in_ok-node.node c.loop-number-test.true c.in_ok-node.ensures)
-    ∙ c.loop-number.invariant.0), omega arith)
+loop-number-preserved c = (
+  ap (λ vs. with_front vs (numbered_at node_at (c.loop-number.number + 1) (c.args.count - (c.loop-number.number + 1)) c.in_ok-node.after.now)) c.in_ok-push.ensures.ok
+      ∙ (sym (numbered_more node_at c.loop-number.found c.loop-number.number c.args.count c.loop-number.rest.now c.in_ok-node.after.now c.in_ok-node.node c.loop-number-test.true c.in_ok-node.ensures)
+      ∙ c.loop-number.invariant.0),
+  omega arith,
+)
 
 pub returns : goal.returns
 returns c = sym c.loop-number.invariant.0 ∙ numbered_done node_at c.loop-number.found c.loop-number.number c.args.count c.loop-number.rest.now c.loop-number-test.false
