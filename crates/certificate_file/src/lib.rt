@@ -9,6 +9,7 @@ mod product_lines;
 mod refusal;
 mod step_lines;
 mod tree_lines;
+mod writing;
 
 pub use certificate::Certificate;
 pub use judging::read_certificate;
