@@ -2,12 +2,19 @@
 ghost use Rattle.std.specs.Prelude.{◌≡◌, ◌++◌, ◌∷◌, [], ◌<◌, OnOk, decimal, length, get_or};
 ghost use Rattle.std.specs.Fmt.{signed_decimal};
 ghost use Rattle.certificate_file.specs.Numbers.{integer_text, number_text};
+ghost use Rattle.text_codes.specs.Endings.{count_end};
+ghost use Rattle.text_codes.specs.Lists.{line_of, texts_of, until};
 ghost use Rattle.certificate_file.specs.Products as products;
+ghost use Rattle.certificate_file.specs.Steps as steps;
 
+use clauses::Lit;
+use duty_claims::Relation;
 use insn_ops::Side;
 use itoa::Buffer;
-use product_automaton::{Atom, Bound1};
-use register_names::name_of;
+use node_values::NodeId;
+use product_automaton::{Atom, Bound1, Invariant, PEdge, PNode};
+use refutations::Step;
+use register_names::register_name;
 use std::alloc::AllocError;
 
 /// Appends a number and the byte that ends it.
@@ -41,19 +48,19 @@ fn push_side(out: &mut Vec<u8>, side: Side) -> Result<(), AllocError>
     Ok(())
 }
 
-/// Appends the name of a register and the byte that ends it.
+/// Appends the name of a register, where it has one, and the byte that ends it.
 fn push_register(out: &mut Vec<u8>, n: u8, end: u8) -> Result<(), AllocError>
-    requires { n < 16 }
     ensures { OnOk result (out.new.items ≡ out.old.items ++ (products.register n ++ end ∷ [])) }
 {
-    out.extend_from_slice(name_of(64, n).as_bytes())?;
+    if let Some(name) = register_name(64, n) {
+        out.extend_from_slice(name.as_bytes())?;
+    }
     out.push(end)?;
     Ok(())
 }
 
 /// Appends an atom and the byte that ends it.
 fn push_atom(out: &mut Vec<u8>, atom: Atom, end: u8) -> Result<(), AllocError>
-    requires { products.AtomFits atom }
     ensures { OnOk result (out.new.items ≡ out.old.items ++ products.atom_text end atom) }
 {
     match atom {
@@ -77,7 +84,6 @@ fn push_atom(out: &mut Vec<u8>, atom: Atom, end: u8) -> Result<(), AllocError>
 
 /// Appends a side of a comparison and the byte that ends it.
 fn push_bound(out: &mut Vec<u8>, bound: Bound1, end: u8) -> Result<(), AllocError>
-    requires { products.BoundFits bound }
     ensures { OnOk result (out.new.items ≡ out.old.items ++ products.bound_text end bound) }
 {
     match bound {
@@ -87,4 +93,54 @@ fn push_bound(out: &mut Vec<u8>, bound: Bound1, end: u8) -> Result<(), AllocErro
             push_number(out, n, end)
         }
     }
+}
+
+/// What has a text of its own that is written.
+pub(crate) trait Written {
+    ghost use Rattle.std.specs.Prelude.{ℕ, List};
+
+    /// Its text.
+    ghost text_of: { Self → List ℕ };
+
+    /// Appends its text.
+    fn write(&self, out: &mut Vec<u8>) -> Result<(), AllocError>
+        ensures { OnOk result (out.new.items ≡ out.old.items ++ text_of self.now) };
+}
+
+/// What has a text with the byte that ends it.
+pub(crate) trait WrittenEnded {
+    ghost use Rattle.std.specs.Prelude.{ℕ, List};
+
+    /// Its text with this byte behind it.
+    ghost text_of: { ℕ → Self → List ℕ };
+
+    /// Appends its text with this byte behind it.
+    fn write(&self, out: &mut Vec<u8>, end: u8) -> Result<(), AllocError>
+        ensures { OnOk result (out.new.items ≡ out.old.items ++ text_of end self.now) };
+}
+
+/// Appends values, one behind another.
+#[tactic(auto, unfolding(text_codes::specs::Lists::texts_of))]
+fn push_all<T: Written>(out: &mut Vec<u8>, values: &[T]) -> Result<(), AllocError>
+    ensures { OnOk result (out.new.items ≡ out.old.items ++ texts_of T.text_of values.now) }
+{
+    let mut rest = values;
+    while let [first, after @ ..] = rest {
+        first.write(out)?;
+        rest = after;
+    }
+    Ok(())
+}
+
+/// Appends values up to the end of a line.
+#[tactic(auto, unfolding(text_codes::specs::Lists::line_of))]
+fn push_line<T: WrittenEnded>(out: &mut Vec<u8>, values: &[T]) -> Result<(), AllocError>
+    ensures { OnOk result (out.new.items ≡ out.old.items ++ line_of T.text_of values.now) }
+{
+    let mut rest = values;
+    while let [first, after @ ..] = rest {
+        first.write(out, if after.is_empty() { b'\n' } else { b' ' })?;
+        rest = after;
+    }
+    Ok(())
 }
