@@ -8,3 +8,4 @@ pub mod SplitReading
 pub mod LineLaws
 pub mod VersionLaws
 pub mod Verdicts
+pub mod TreeWriting

@@ -25,7 +25,7 @@ use Rattle.certificate_file.specs.Numbers.{space, newline, number_text, integer_
 use Rattle.certificate_file.specs.Products.{node_text, NodeFits, edge_text, EdgeFits}
 use Rattle.certificate_file.specs.Steps.{step_text, StepFits}
 use Rattle.certificate_file.specs.Texts.{certificate_text, CertificateFits}
-use Rattle.certificate_file.specs.Trees.{relation_text, RelationFits, joined, layer_text, tree_text, LayerFits, TreeFits}
+use Rattle.certificate_file.specs.Trees.{relation_text, RelationFits, joined, split_text, layer_text, tree_text, LayerFits, TreeFits}
 use Rattle.certificate_file.specs.ProductReading.{u32_at, u64_at, lines_at, node_at, edge_at}
 use Rattle.certificate_file.specs.StepReading.{integer_at, step_at}
 use Rattle.certificate_file.specs.TreeReading.{relation_at, leaf_at, Front, front_at, split_at, tree_at, nodes_at, certificate_at}
@@ -101,22 +101,20 @@ abbrev layer_body : Tree-F Tree → List ℕ
 layer_body (Leaf shown) = codes "eaf " ++ lines_text step_text shown.steps
 layer_body (Split i j rels proof kids) = codes "plit " ++ (front_text (i, (j, (rels, proof.steps))) ++ texts_of tree_text kids)
 
-joined-map : (kids : List Tree) → joined (map tree_text kids) ≡ texts_of tree_text kids
+pub joined-map : (kids : List Tree) → joined (map tree_text kids) ≡ texts_of tree_text kids
 unfolding texts_of
 joined-map [] = refl
 joined-map (kid ∷ kids) = ap (λ (t : List ℕ). tree_text kid ++ t) (joined-map kids)
 
-regrouped : (a b c d e f : List ℕ) → a ++ (b ++ (c ++ (d ++ (e ++ f)))) ≡ (a ++ (b ++ ((c ++ d) ++ e))) ++ f
-regrouped a b c d e f = sym (simp append_assoc)
+regrouped : (w a b c d e f : List ℕ) → (w ++ (a ++ (b ++ (c ++ (d ++ e))))) ++ f ≡ w ++ ((a ++ (b ++ ((c ++ d) ++ e))) ++ f)
+regrouped w a b c d e f = simp append_assoc
 
 layer_is : (x : Tree-F Tree) → tree_text (roll-Tree x) ≡ layer_letter x ∷ layer_body x
 layer_is (Leaf shown) = fold-roll-Tree (List ℕ) layer_text (Leaf shown)
 layer_is (Split i j rels proof kids) =
     fold-roll-Tree (List ℕ) layer_text (Split i j rels proof kids)
-    ∙ (ap (λ (t : List ℕ). codes "split " ++ (number_text space i ++ (number_text space j ++ (number_text space (length rels) ++ (texts_of relation_text rels
-    ++ (lines_text step_text proof.steps ++ t)))))) (joined-map kids)
-    ∙ ap (λ (t : List ℕ). codes "split " ++ t)
-    (regrouped (number_text space i) (number_text space j) (number_text space (length rels)) (texts_of relation_text rels) (lines_text step_text proof.steps) (texts_of tree_text kids)))
+    ∙ (ap (λ (t : List ℕ). split_text i j rels proof.steps ++ t) (joined-map kids)
+    ∙ regrouped (codes "split ") (number_text space i) (number_text space j) (number_text space (length rels)) (texts_of relation_text rels) (lines_text step_text proof.steps) (texts_of tree_text kids))
 
 abbrev tree_letter : Tree → ℕ
 tree_letter t = layer_letter (out-Tree t)

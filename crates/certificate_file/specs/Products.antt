@@ -85,10 +85,12 @@ NodeFits i n =
     (i ≡ 1 → (n.left ≡ 0) × (n.right ≡ 0))
     × ((IsU32 n.left × IsU32 n.right) × (IsU32 n.rank_left × (IsU32 n.rank_right × AreCounted InvariantFits n.invs)))
 
+-- the paths of an edge
+abbrev pub paths_text : List ℕ → List ℕ → List ℕ
+paths_text left right = codes "left " ++ (row_text number_text left ++ (codes "right " ++ row_text number_text right))
+
 abbrev pub edge_text : PEdge → List ℕ
-edge_text e =
-    codes "edge " ++ (number_text space e.from ++ (number_text newline e.to
-    ++ (codes "left " ++ (row_text number_text e.left ++ (codes "right " ++ row_text number_text e.right)))))
+edge_text e = codes "edge " ++ (number_text space e.from ++ (number_text newline e.to ++ paths_text e.left e.right))
 
 abbrev pub EdgeFits : PEdge → Type 0
 EdgeFits e = IsU32 e.from × (IsU32 e.to × (AreCounted IsU32 e.left × AreCounted IsU32 e.right))

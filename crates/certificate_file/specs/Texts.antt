@@ -4,18 +4,25 @@ use Rattle.text_parts.specs.Numbers.{IsDecimal}
 use Rattle.certificate_file.specs.declared.refusal.CertRefusal.{CertRefusal}
 use Rattle.certificate_file.specs.declared.refusal.CertRefusal.TheVariants.{Version, Truncated, BadLine, Memory}
 use Rattle.certificate_file.specs.declared.certificate.Certificate.{Certificate}
+use Rattle.product_automaton.specs.declared.product.PNode.{PNode}
+use Rattle.refutations.specs.declared.tree.Tree.{Tree}
 use Rattle.text_codes.specs.Lists.{EachNumbered, numbered_of}
 use Rattle.certificate_file.specs.Numbers.{newline, number_text, IsU64, lines_text, AreCounted}
 use Rattle.certificate_file.specs.Products.{node_text, NodeFits, edge_text, EdgeFits}
 use Rattle.certificate_file.specs.Trees.{tree_text, TreeFits}
 
+-- the nodes of a product behind their count, numbered from 0
+abbrev pub nodes_text : List PNode → List ℕ
+nodes_text nodes = number_text newline (length nodes) ++ numbered_of node_text 0 nodes
+
+-- the trees of all duties behind their count, and the last line
+abbrev pub trees_text : List Tree → List ℕ
+trees_text trees = codes "duties " ++ (lines_text tree_text trees ++ codes "end\n")
+
 -- the text of a certificate
 abbrev pub certificate_text : Certificate → List ℕ
 certificate_text c =
-    codes "align-certificate 1\nnodes " ++ ((number_text newline (length c.product.nodes) ++ numbered_of node_text 0 c.product.nodes)
-    ++ (codes "edges " ++ (lines_text edge_text c.product.edges
-    ++ (codes "duties " ++ (lines_text tree_text c.trees
-    ++ codes "end\n")))))
+    codes "align-certificate 1\nnodes " ++ (nodes_text c.product.nodes ++ (codes "edges " ++ (lines_text edge_text c.product.edges ++ trees_text c.trees)))
 
 -- a certificate that has a text: each part of it in its range
 abbrev pub CertificateFits : Certificate → Type 0

@@ -3,6 +3,7 @@ use Rattle.std.specs.Prelude.{◌≡◌, ℕ, zero, suc, ◌≤◌, List, [], �
 use Rattle.std.specs.List.{AllByRecursion}
 use Rattle.duty_claims.specs.declared.duty.Relation.{Relation}
 use Rattle.duty_claims.specs.declared.duty.Relation.TheVariants.{Apart, Offset}
+use Rattle.refutations.specs.declared.step.Step.{Step}
 use Rattle.refutations.specs.declared.tree.Tree.{Tree}
 use Rattle.refutations.specs.declared.tree.Tree.TheOpen.{Tree-F, Leaf, Split}
 use Rattle.refutations.specs.declared.tree.Tree.TheViews.{out-Tree}
@@ -25,12 +26,16 @@ abbrev pub joined : List (List ℕ) → List ℕ
 joined [] = []
 joined (text ∷ texts) = text ++ joined texts
 
+-- what stands in a split before its children
+abbrev pub split_text : ℕ → ℕ → List Relation → List Step → List ℕ
+split_text i j rels steps =
+    codes "split " ++ (number_text space i ++ (number_text space j ++ (number_text space (length rels) ++ (texts_of relation_text rels
+    ++ lines_text step_text steps))))
+
 -- a leaf or a split, with the text of each child in its place
 abbrev pub layer_text : Tree-F (List ℕ) → List ℕ
 layer_text (Leaf shown) = codes "leaf " ++ lines_text step_text shown.steps
-layer_text (Split i j rels proof kids) =
-    codes "split " ++ (number_text space i ++ (number_text space j ++ (number_text space (length rels) ++ (texts_of relation_text rels
-    ++ (lines_text step_text proof.steps ++ joined kids)))))
+layer_text (Split i j rels proof kids) = split_text i j rels proof.steps ++ joined kids
 
 -- the lines of a tree
 abbrev pub tree_text : Tree → List ℕ

@@ -10,7 +10,10 @@ mod refusal;
 mod step_lines;
 mod tree_lines;
 mod writing;
+mod written_lines;
+mod written_trees;
 
 pub use certificate::Certificate;
 pub use judging::read_certificate;
 pub use refusal::CertRefusal;
+pub use written_trees::write_certificate;

@@ -2,18 +2,12 @@
 ghost use Rattle.std.specs.Prelude.{◌≡◌, ◌++◌, ◌∷◌, [], ◌<◌, OnOk, decimal, length, get_or};
 ghost use Rattle.std.specs.Fmt.{signed_decimal};
 ghost use Rattle.certificate_file.specs.Numbers.{integer_text, number_text};
-ghost use Rattle.text_codes.specs.Endings.{count_end};
-ghost use Rattle.text_codes.specs.Lists.{line_of, texts_of, until};
+ghost use Rattle.text_codes.specs.Lists.{line_of, texts_of};
 ghost use Rattle.certificate_file.specs.Products as products;
-ghost use Rattle.certificate_file.specs.Steps as steps;
 
-use clauses::Lit;
-use duty_claims::Relation;
 use insn_ops::Side;
 use itoa::Buffer;
-use node_values::NodeId;
-use product_automaton::{Atom, Bound1, Invariant, PEdge, PNode};
-use refutations::Step;
+use product_automaton::{Atom, Bound1};
 use register_names::register_name;
 use std::alloc::AllocError;
 
@@ -60,7 +54,7 @@ fn push_register(out: &mut Vec<u8>, n: u8, end: u8) -> Result<(), AllocError>
 }
 
 /// Appends an atom and the byte that ends it.
-fn push_atom(out: &mut Vec<u8>, atom: Atom, end: u8) -> Result<(), AllocError>
+pub(crate) fn push_atom(out: &mut Vec<u8>, atom: Atom, end: u8) -> Result<(), AllocError>
     ensures { OnOk result (out.new.items ≡ out.old.items ++ products.atom_text end atom) }
 {
     match atom {
@@ -83,7 +77,7 @@ fn push_atom(out: &mut Vec<u8>, atom: Atom, end: u8) -> Result<(), AllocError>
 }
 
 /// Appends a side of a comparison and the byte that ends it.
-fn push_bound(out: &mut Vec<u8>, bound: Bound1, end: u8) -> Result<(), AllocError>
+pub(crate) fn push_bound(out: &mut Vec<u8>, bound: Bound1, end: u8) -> Result<(), AllocError>
     ensures { OnOk result (out.new.items ≡ out.old.items ++ products.bound_text end bound) }
 {
     match bound {
@@ -121,7 +115,7 @@ pub(crate) trait WrittenEnded {
 
 /// Appends values, one behind another.
 #[tactic(auto, unfolding(text_codes::specs::Lists::texts_of))]
-fn push_all<T: Written>(out: &mut Vec<u8>, values: &[T]) -> Result<(), AllocError>
+pub(crate) fn push_all<T: Written>(out: &mut Vec<u8>, values: &[T]) -> Result<(), AllocError>
     ensures { OnOk result (out.new.items ≡ out.old.items ++ texts_of T.text_of values.now) }
 {
     let mut rest = values;
@@ -134,7 +128,7 @@ fn push_all<T: Written>(out: &mut Vec<u8>, values: &[T]) -> Result<(), AllocErro
 
 /// Appends values up to the end of a line.
 #[tactic(auto, unfolding(text_codes::specs::Lists::line_of))]
-fn push_line<T: WrittenEnded>(out: &mut Vec<u8>, values: &[T]) -> Result<(), AllocError>
+pub(crate) fn push_line<T: WrittenEnded>(out: &mut Vec<u8>, values: &[T]) -> Result<(), AllocError>
     ensures { OnOk result (out.new.items ≡ out.old.items ++ line_of T.text_of values.now) }
 {
     let mut rest = values;
