@@ -3,11 +3,12 @@ ghost use Rattle.std.specs.Prelude.{◌≡◌, ◌⊎◌, Result, Ok, Err};
 ghost use Rattle.certificate_file.specs.declared.certificate.Certificate.{Certificate};
 ghost use Rattle.certificate_file.specs.declared.refusal.CertRefusal.{CertRefusal};
 ghost use Rattle.certificate_file.specs.Judging.{answer_of, is_other_version, line_number, refusal_of};
-ghost use Rattle.certificate_file.specs.Texts.{IsVerdict};
+ghost use Rattle.certificate_file.specs.Texts.{CertificateFits, IsVerdict};
 
 use crate::certificate::Certificate;
 use crate::refusal::CertRefusal;
 use crate::tree_lines::certificate;
+use crate::written_trees::write_certificate;
 use std::alloc::Global;
 use text_codes::{Stop, behind};
 use text_parts::{capped_decimal, first_part};
@@ -73,4 +74,13 @@ pub fn read_certificate(alloc: Global, text: &[u8]) -> Result<Certificate, CertR
         → (r ≡ Err CertRefusal.Memory) ⊎ ((result ≡ Err CertRefusal.Memory) ⊎ (result ≡ r)) }
 {
     answer_of(alloc, text)
+}
+
+/// The law of what is written: read again it is the certificate, unless memory runs out.
+pub fn read_back(alloc: Global, certificate: &Certificate) -> Result<Certificate, CertRefusal>
+    requires { CertificateFits certificate.now }
+    ensures { (result ≡ Err CertRefusal.Memory) ⊎ (result ≡ Ok certificate.now) }
+{
+    let text = write_certificate(alloc, certificate)?;
+    read_certificate(alloc, text.as_slice())
 }

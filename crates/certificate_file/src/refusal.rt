@@ -1,4 +1,5 @@
 //! Why a text is no certificate.
+use outcomes::Memory;
 use thiserror::Error;
 
 /// Why a text is no certificate. Lines are counted from 1; those above 2^32 - 1 are given as that.
@@ -16,4 +17,15 @@ pub enum CertRefusal {
     /// Out of memory.
     #[error("out of memory")]
     Memory,
+}
+
+impl From<Memory> for CertRefusal {
+    ghost use Rattle.std.specs.Prelude.{◌≡◌};
+    ghost use Rattle.certificate_file.specs.declared.refusal.CertRefusal.TheVariants as refusals;
+
+    ghost from_gives = { λ _ e. e ≡ refusals.Memory };
+
+    fn from(_failed: Memory) -> CertRefusal {
+        CertRefusal::Memory
+    }
 }
