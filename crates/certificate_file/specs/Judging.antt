@@ -18,6 +18,7 @@ abbrev pub is_other_behind : Reading (Unit {0}) → Bool
 is_other_behind (Ok x) = is_other_number (capped (decimal_of (first_part 10 x.1).0))
 is_other_behind (Err left) = false
 
+-- whether the text names another version
 unfoldable pub is_other_version : List ℕ → Bool
 is_other_version text = is_other_behind (word_at (codes "align-certificate ") text)
 
@@ -35,6 +36,7 @@ abbrev pub whole_of : List ℕ → Certificate → List ℕ → Result Certifica
 whole_of text c [] = Ok c
 whole_of text c (b ∷ rest) = Err (BadLine (line_number text (b ∷ rest)))
 
+-- what a text is answered, by what its reader found
 abbrev pub judged : List ℕ → Reading Certificate → Result Certificate CertRefusal
 judged text (Ok x) = whole_of text x.0 x.1
 judged text (Err left) = Err (refusal_of text left)

@@ -9,6 +9,7 @@ use Rattle.text_codes.specs.Lists.{line_of, texts_of}
 abbrev pub space : ℕ
 space = 32
 
+-- the byte that ends a line
 abbrev pub newline : ℕ
 newline = 10
 
@@ -24,13 +25,16 @@ integer_text end z = signed_decimal z ++ end ∷ []
 abbrev pub IsU32 : ℕ → Type 0
 IsU32 n = n < 2 ^ 32
 
+-- a number of 64 bits
 abbrev pub IsU64 : ℕ → Type 0
 IsU64 n = n < 2 ^ 64
 
+-- a number of 64 bits with a sign
 abbrev pub IsI64 : ℤ → Type 0
 IsI64 (pos n) = n < 2 ^ 63
 IsI64 (negsuc n) = n < 2 ^ 63
 
+-- a number of 8 bits with a sign
 abbrev pub IsI8 : ℤ → Type 0
 IsI8 (pos n) = n < 128
 IsI8 (negsuc n) = n < 128

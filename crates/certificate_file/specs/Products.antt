@@ -20,6 +20,7 @@ use Rattle.certificate_file.specs.Numbers.{space, newline, number_text, IsU32, I
 abbrev pub register : ℕ → List ℕ
 register n = get_or (register_names 64) n []
 
+-- the letter of a side
 abbrev pub side_text : Side → List ℕ
 side_text Left = codes "l"
 side_text Right = codes "r"
@@ -36,10 +37,12 @@ AtomFits (Reg side n) = n < 16
 AtomFits (Entry n) = n < 16
 AtomFits (Lane side v lane) = (v < 16) × (lane < 256)
 
+-- a side of a comparison, and the byte that ends it
 abbrev pub bound_text : ℕ → Bound1 → List ℕ
 bound_text end (Of a) = atom_text end a
 bound_text end (Num n) = codes "#" ++ number_text end n
 
+-- a side of a comparison in its range
 abbrev pub BoundFits : Bound1 → Type 0
 BoundFits (Of a) = AtomFits a
 BoundFits (Num n) = IsU64 n
@@ -50,6 +53,7 @@ BoundFits (Num n) = IsU64 n
 abbrev pub term_text : ℕ × Atom → List ℕ
 term_text t = number_text space t.0 ++ atom_text space t.1
 
+-- a coefficient and its atom in their ranges
 abbrev pub TermFits : ℕ × Atom → Type 0
 TermFits t = IsU64 t.0 × AtomFits t.1
 
@@ -58,12 +62,14 @@ abbrev pub order_word : Bool → Bool → List ℕ
 order_word signed strict =
     if signed then (if strict then codes "slt " else codes "sle ") else (if strict then codes "ult " else codes "ule ")
 
+-- the line of an invariant
 abbrev pub invariant_text : Invariant → List ℕ
 invariant_text (Lin w terms c) =
     codes "inv lin " ++ (number_text space w ++ (number_text space (length terms) ++ (texts_of term_text terms ++ number_text newline c)))
 invariant_text (Less signed strict w a b) =
     codes "inv " ++ (order_word signed strict ++ (number_text space w ++ (bound_text space a ++ bound_text newline b)))
 
+-- an invariant with each field in its range
 abbrev pub InvariantFits : Invariant → Type 0
 InvariantFits (Lin w terms c) = IsU32 w × (AreCounted TermFits terms × IsU64 c)
 InvariantFits (Less signed strict w a b) = IsU32 w × (BoundFits a × BoundFits b)
@@ -80,6 +86,7 @@ node_text i n =
     codes "node " ++ (number_text space i ++ (places_text i n ++ (number_text space n.rank_left ++ (number_text space n.rank_right
     ++ lines_text invariant_text n.invs))))
 
+-- node i with each field in its range
 abbrev pub NodeFits : ℕ → PNode → Type 0
 NodeFits i n =
     (i ≡ 1 → (n.left ≡ 0) × (n.right ≡ 0))
@@ -89,8 +96,10 @@ NodeFits i n =
 abbrev pub paths_text : List ℕ → List ℕ → List ℕ
 paths_text left right = codes "left " ++ (row_text number_text left ++ (codes "right " ++ row_text number_text right))
 
+-- the lines of an edge
 abbrev pub edge_text : PEdge → List ℕ
 edge_text e = codes "edge " ++ (number_text space e.from ++ (number_text newline e.to ++ paths_text e.left e.right))
 
+-- an edge with each field in its range
 abbrev pub EdgeFits : PEdge → Type 0
 EdgeFits e = IsU32 e.from × (IsU32 e.to × (AreCounted IsU32 e.left × AreCounted IsU32 e.right))

@@ -15,6 +15,7 @@ lit_text l = if l.neg then 45 ∷ number_text space l.var else number_text space
 abbrev pub no_literal : Lit
 no_literal = record { var = 0; neg = false }
 
+-- a literal with its variable in its range
 abbrev pub LitFits : Lit → Type 0
 LitFits l = (1 ≤ l.var) × IsU32 l.var
 
@@ -22,6 +23,7 @@ LitFits l = (1 ≤ l.var) × IsU32 l.var
 abbrev pub pair_text : ℕ → ℕ × ℕ → List ℕ
 pair_text end p = number_text space p.0 ++ number_text end p.1
 
+-- a clause and a pivot in their ranges
 abbrev pub PairFits : ℕ × ℕ → Type 0
 PairFits p = IsU32 p.0 × IsU32 p.1
 
@@ -29,9 +31,11 @@ PairFits p = IsU32 p.0 × IsU32 p.1
 abbrev pub part_text : ℕ → ℕ × ℤ → List ℕ
 part_text end p = number_text space p.0 ++ integer_text end p.1
 
+-- a part of a combination in its range
 abbrev pub PartFits : ℕ × ℤ → Type 0
 PartFits p = IsU64 p.0 × IsI64 p.1
 
+-- the line of a step
 abbrev pub step_text : Step → List ℕ
 step_text (Chain lits first next) =
     codes "r " ++ (until lit_text no_literal lits ++ (number_text (end_before next) first ++ line_of pair_text next))
@@ -42,6 +46,7 @@ step_text (Fails i parts) = codes "n " ++ (number_text space i.0 ++ row_text par
 step_text (Both i j unit parts) =
     codes "q " ++ (number_text space i.0 ++ (number_text space j.0 ++ (number_text space unit ++ row_text part_text parts)))
 
+-- a step with each field in its range
 abbrev pub StepFits : Step → Type 0
 StepFits (Chain lits first next) = AllByRecursion LitFits lits × (IsU32 first × AllByRecursion PairFits next)
 StepFits (Equal i j parts) = IsU32 i.0 × (IsU32 j.0 × AreCounted PartFits parts)

@@ -22,7 +22,8 @@ trees_text trees = codes "duties " ++ (lines_text tree_text trees ++ codes "end\
 -- the text of a certificate
 abbrev pub certificate_text : Certificate → List ℕ
 certificate_text c =
-    codes "align-certificate 1\nnodes " ++ (nodes_text c.product.nodes ++ (codes "edges " ++ (lines_text edge_text c.product.edges ++ trees_text c.trees)))
+    codes "align-certificate 1\nnodes " ++ (nodes_text c.product.nodes
+    ++ (codes "edges " ++ (lines_text edge_text c.product.edges ++ trees_text c.trees)))
 
 -- a certificate that has a text: each part of it in its range
 abbrev pub CertificateFits : Certificate → Type 0

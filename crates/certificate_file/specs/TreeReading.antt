@@ -17,6 +17,7 @@ use Rattle.certificate_file.specs.Numbers.{space, newline}
 use Rattle.certificate_file.specs.ProductReading.{u32_at, u64_at, lines_at, node_at, edge_at}
 use Rattle.certificate_file.specs.StepReading.{integer_at, step_at}
 
+-- a relation
 abbrev pub relation_at : List ℕ → Reading Relation
 relation_at text =
     letters_at ((97, made_at (λ (u : Unit {0}). Apart) (word_at (codes "part ")))
@@ -30,6 +31,7 @@ leaf_at text = made_at (λ (steps : List Step). roll-Tree (Leaf (record { steps 
 abbrev pub Front : Type 0
 Front = ℕ × (ℕ × (List Relation × List Step))
 
+-- what stands before the trees of a split
 abbrev pub front_at : List ℕ → Reading Front
 front_at text =
     pair_at (u32_at space) (pair_at (u32_at space)
@@ -54,6 +56,7 @@ nodes_at text = made_at (λ (p : ℕ × List PNode). p.1) (then_at (u64_at newli
 abbrev pub trees_at : List ℕ → Reading (List Tree)
 trees_at text = lines_at (tree_at 16) text
 
+-- a certificate
 abbrev pub certificate_at : List ℕ → Reading Certificate
 certificate_at text =
     made_at (λ (p : List PNode × (List PEdge × (List Tree × Unit {0}))). record { product = record { nodes = p.0; edges = p.1.0 }; trees = p.1.1.0 })

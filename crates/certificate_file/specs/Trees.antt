@@ -17,6 +17,7 @@ abbrev pub relation_text : Relation → List ℕ
 relation_text Apart = codes "apart "
 relation_text (Offset d) = codes "off " ++ integer_text space d
 
+-- a relation in its range
 abbrev pub RelationFits : Relation → Type 0
 RelationFits Apart = Unit {0}
 RelationFits (Offset d) = IsI8 d

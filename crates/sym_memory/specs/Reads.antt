@@ -29,6 +29,7 @@ abbrev pub test_by : Place → Written → List Node → Option Relation → Mad
 test_by place w ns None = let address = byte_address ns w.at w.byte in equality address.nodes place.address address.id
 test_by place w ns (Some relation) = made ns (Const 1 (bit (is_same_byte relation place.byte w.byte)))
 
+-- whether a written byte is the byte that is read, under the relation that is fixed for their accesses
 unfoldable pub test : List Fixed → Place → Written → List Node → Made
 test fixed place w ns = test_by place w ns (relation_of fixed w.access place.access)
 
