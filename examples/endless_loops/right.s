@@ -1,0 +1,4 @@
+g:
+.L2:
+addq $1,%rax
+jmp .L2
