@@ -11,4 +11,4 @@ mod form;
 mod sums;
 
 pub use difference::{address_difference, address_equality};
-pub use sums::multiple;
+pub use sums::{exponent_of, multiple};

@@ -64,8 +64,8 @@ fn multiple_by(
     }
 }
 
-/// The exponent of a power of two.
-fn exponent_of(q: u64) -> Option<u32>
+/// The exponent of a power of two, none of another number.
+pub fn exponent_of(q: u64) -> Option<u32>
     ensures { result ≡ exponent 64 q }
 {
     let mut n = 64;
