@@ -1,1 +1,6 @@
+pub mod DutyClauses
+pub mod Numbering
+pub mod Operators
+pub mod Reach
+pub mod Readings
 pub mod SameRows
