@@ -15,9 +15,9 @@ use Rattle.clause_rows.specs.Numbering.{first_variable}
 use Rattle.clause_rows.specs.Reach.{is_in_reach, needed_pairs}
 use Rattle.clause_rows.specs.SameRows.{same_row}
 
--- the lowest bit of a node
-abbrev pub lowest_bit : Duty → NodeId → Lit
-lowest_bit d node = positive (first_variable d node.0)
+-- the lowest bit of a node, from the variables of the lowest bits
+abbrev pub lowest_bit : (ℕ → ℕ) → NodeId → Lit
+lowest_bit first node = positive (first node.0)
 
 -- the row of node i, where it is in the reach
 abbrev pub reach_row : Duty → ℕ → List (List Lit)
@@ -31,22 +31,20 @@ abbrev pub reach_rows : Duty → List (List Lit)
 reach_rows d = columns (reach_row d) (length d.sheet.now)
 
 -- the row of a pair of bytes
-abbrev pub pair_row : Duty → StartPair → List (List Lit)
-pair_row d p =
-    same_row (first_variable d p.same_at.0) (option_map (λ node. first_variable d node.0) p.scratch)
-    (first_variable d p.m.0) (first_variable d p.n.0)
+abbrev pub pair_row : (ℕ → ℕ) → StartPair → List (List Lit)
+pair_row first p = same_row (first p.same_at.0) (option_map (λ node. first node.0) p.scratch) (first p.m.0) (first p.n.0)
 
 -- the rows of each two bytes of memory of the reach
 abbrev pub pair_rows : Duty → List (List Lit)
-pair_rows d = flat_map (pair_row d) (needed_pairs d)
+pair_rows d = flat_map (pair_row (first_variable d)) (needed_pairs d)
 
 -- each hypothesis is 1
 abbrev pub hypothesis_units : Duty → List (List Lit)
-hypothesis_units d = map (λ node. lowest_bit d node ∷ []) d.hyps.now
+hypothesis_units d = map (λ node. lowest_bit (first_variable d) node ∷ []) d.hyps.now
 
 -- the goal is 0, and so is each further goal
 abbrev pub negated_goals : Duty → List (List Lit)
-negated_goals d = map (λ node. negation (lowest_bit d node) ∷ []) (d.goal ∷ d.more.now)
+negated_goals d = map (λ node. negation (lowest_bit (first_variable d) node) ∷ []) (d.goal ∷ d.more.now)
 
 -- The clauses of a duty, in normal form: the rows of the nodes of its reach, the rows of its pairs of bytes, its
 -- hypotheses, and its goals negated.
