@@ -84,7 +84,12 @@ pub fn with_term(sheet: &mut Sheet, sum: NodeId, term: Term) -> Result<NodeId, S
 
 /// Builds a sum, or a difference where `minus` is set.
 #[tactic(auto, using(crate::proofs::Longer::made_longer))]
-fn add_or_subtract(sheet: &mut Sheet, minus: bool, a: NodeId, b: NodeId) -> Result<NodeId, SheetFull>
+fn add_or_subtract(
+    sheet: &mut Sheet,
+    minus: bool,
+    a: NodeId,
+    b: NodeId,
+) -> Result<NodeId, SheetFull>
     requires first { IsAddress sheet.old a }
     requires second { IsAddress sheet.old b }
     ensures made { IfOk result (λ id. made sheet.old (join minus a b) ≡ record { nodes = sheet.new; id = id }) }
