@@ -1,0 +1,4 @@
+pub mod Clauses
+pub mod Marking
+pub mod Resolving
+pub mod Chaining
