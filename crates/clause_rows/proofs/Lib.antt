@@ -1,1 +1,9 @@
+pub mod Elements
+pub mod Inside
+pub mod Marked
+pub mod Numbers
+pub mod Pushing
 pub mod SameBytes
+pub mod SameFirsts
+pub mod Together
+pub mod Variables

@@ -1,5 +1,5 @@
 -- The reach of a duty: the nodes that its clauses speak of.
-use Rattle.std.specs.Prelude.{ℕ, ◌&&◌, Bool, List, [], ◌∷◌, ◌++◌, Option, Some, None}
+use Rattle.std.specs.Prelude.{ℕ, ◌&&◌, Bool, List, [], ◌∷◌, ◌++◌, Option, Some, None, MatchOption}
 use Rattle.std.specs.List.{filter, flat_map}
 use Rattle.node_values.specs.declared.node.NodeId.{NodeId}
 use Rattle.node_reach.specs.Reached.{is_needed}
@@ -34,3 +34,10 @@ reach_roots d = named_nodes d ++ flat_map pair_nodes (needed_pairs d)
 -- whether node k is in the reach: the named nodes need it, or a node of a pair of bytes that they need does
 abbrev pub is_in_reach : Duty → ℕ → Bool
 is_in_reach d k = is_needed d.sheet.now (reach_roots d) k
+
+-- a fact of each node of a pair, and of its bytes
+pub record IsPairAmong (P : NodeId → Type 0) (p : StartPair) : Type 0 where
+  pub m : P p.m
+  pub n : P p.n
+  pub same_at : P p.same_at
+  pub scratch : MatchOption p.scratch (Unit {0}) P
