@@ -1,6 +1,5 @@
 pub mod DutyClauses
 pub mod Numbering
-pub mod Operators
 pub mod Reach
 pub mod Readings
 pub mod SameRows

@@ -28,7 +28,7 @@ same_scaled p q x = sym (ap (λ (n : ℕ). n % (p * q)) (parts (x % q) (x / q) (
     parts m d e = ap (λ (n : ℕ). p * n) e ∙ omega arith
 
 -- a number of more bits
-number_split : (f : ℕ → Bool) (n m : ℕ) → number_of f (n + m) ≡ number_of f n + 2 ^ n * number_of (λ k. f (n + k)) m
+pub number_split : (f : ℕ → Bool) (n m : ℕ) → number_of f (n + m) ≡ number_of f n + 2 ^ n * number_of (λ k. f (n + k)) m
 number_split f n zero = let e : n + 0 ≡ n = omega arith in ap (number_of f) e ∙ plain (number_of f n) (2 ^ n)
   where
     plain : (s p : ℕ) → s ≡ s + p * 0

@@ -1,0 +1,4 @@
+pub mod Places
+pub mod PlainRows
+pub mod RowNumbers
+pub mod WordNumbers
