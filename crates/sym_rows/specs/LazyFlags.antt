@@ -55,3 +55,8 @@ flag_word e ns which Unset = 0
 flag_word e ns which (From op w over) =
     value (λ i. value_at e ns (flag_leaf over i).0) (flag_expr which op w (shift_count ns op over.right))
 flag_word e ns which (Built id) = value_at e ns id.0
+
+-- a flag that is set is set in a later sheet too, with the same word in every environment
+pub record StaysSet (ns : List Node) (which : Flag) (f : SymFlag) (later : List Node) : Type 0 where
+  pub set : IsSetFlag later which f
+  pub word : (e : Environment) → flag_word e later which f ≡ flag_word e ns which f

@@ -1,10 +1,9 @@
 //! Flags that are built only where they are read.
-ghost use Rattle.std.specs.Prelude.{◌≡◌, ◌<◌, ◌≤◌, IfOk, IsErrOf, length, if◌then◌else◌};
+ghost use Rattle.std.specs.Prelude.{◌≡◌, ◌<◌, ◌≤◌, IfOk, IsErrOf, length};
 ghost use Rattle.insn_semantics.specs.OperationGroups.{is_shift};
 ghost use Rattle.node_values.specs.Sheets.{Extends, value_at, width_at};
 ghost use Rattle.node_values.specs.Values.{Environment};
-ghost use Rattle.terms.specs.Rules.{number_at};
-ghost use Rattle.sym_rows.specs.LazyFlags.{IsSetFlag, built_read, flag_word};
+ghost use Rattle.sym_rows.specs.LazyFlags.{IsSetFlag, built_read, flag_word, shift_count};
 
 use crate::flags::flag;
 use crate::operands::{Flag, FlagNodes};
@@ -30,9 +29,9 @@ fn is_shift(op: Op) -> bool
 }
 
 /// The count of a shift whose right operand is a constant; 0 of the other operations.
-fn count(sheet: &Sheet, op: Op, right: NodeId) -> u64
+pub fn shift_count(sheet: &Sheet, op: Op, right: NodeId) -> u64
     requires { right.0 < length sheet.now }
-    ensures { result ≡ (if is_shift op then number_at sheet.now right.0 else 0) }
+    ensures { result ≡ shift_count sheet.now op right }
 {
     if !is_shift(op) {
         return 0;
@@ -64,7 +63,7 @@ pub fn read_flag(sheet: &mut Sheet, which: Flag, read: SymFlag) -> Result<NodeId
             Ok(id)
         }
         SymFlag::From { op, w, over } => {
-            let k = count(sheet, op, over.right);
+            let k = shift_count(sheet, op, over.right);
             flag(sheet, which, op, w, k as u32, over)
         }
     }

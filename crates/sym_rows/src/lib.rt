@@ -7,6 +7,7 @@
 mod building;
 pub mod conditions;
 pub mod flags;
+pub mod laws;
 pub mod lazy_flags;
 pub mod operands;
 pub mod rows;
