@@ -3,10 +3,12 @@
 
     python3 tests/refuse_allocation.py
 
-Twelve runs: ten of decide, run and show over files of examples/, one whose file is refused, and one whose arguments
-are no command. Each is run once as it is, and its allocations are counted. Then, for each number n up to that count,
-it is run with the n-th call of malloc, calloc or realloc refused, and again with the n-th and all behind it. The
-library of tests/refuse_allocation.c, which $CC (cc) compiles, does that. The variable ALIGN names the program.
+Twelve runs of `align`: ten of decide, run and show over files of examples/, one whose file is refused, and one whose
+arguments are no command; and four of `certificate_cases`, which read two certificates and write them again. Each is run
+once as it is, and its allocations are counted. Then, for each number n up to that count, it is run with the n-th call of
+malloc, calloc or realloc refused, and again with the n-th and all behind it. A smaller block that is refused may be done
+without (a list is fitted to its length, where it can be): then the run has to end as it does with nothing refused. The
+library of tests/refuse_allocation.c, which $CC (cc) compiles, refuses them. The variable ALIGN names the program align.
 """
 import os
 import struct
@@ -14,8 +16,11 @@ import subprocess
 import sys
 import tempfile
 
+from certificate_cases import KINDS, STANDING
+
 HERE = os.path.dirname(os.path.abspath(__file__))
 EXAMPLES = os.path.join(os.path.dirname(HERE), "examples")
+CERTIFICATE_CASES = os.path.join(HERE, "../crates/certificate_cases/out/certificate_cases")
 DECIDE, SHOW = "decide {0}/left.s f {0}/right.s g", "show {0}/gcc.s f"
 RUN = "run {0}/{1} f {0}/admission {0}/tests.json"
 RUNS = [(DECIDE.format("swapped_sum"), 0), (DECIDE.format("off_by_one"), 1), (DECIDE.format("compiled_difference"), 0),
@@ -24,51 +29,62 @@ RUNS = [(DECIDE.format("swapped_sum"), 0), (DECIDE.format("off_by_one"), 1), (DE
         (RUN.format("vectorised_words", "gcc.s") + " --steps 100", 0), (SHOW.format("counted_bits"), 0),
         (SHOW.format("vectorised_words"), 0), ("decide swapped_sum/left.s f counted_bits/gcc.s f", 3),
         ("run --stepped 5 a f b c", 4)]
+# a task and the text on standard input
+CERTIFICATES = [("read", STANDING), ("again", STANDING), ("read", KINDS), ("again", KINDS)]
 
 
-def run(program, words, variables, counts):
-    """The status of a run, what it printed on both outputs, and its numbers of allocations and of refusals."""
-    with open(counts, "wb") as file:
-        file.write(bytes(16))
-    done = subprocess.run([program, *words], cwd=EXAMPLES, env=variables | {"REFUSE_COUNTS": counts}, timeout=60,
-                          stdin=subprocess.DEVNULL, capture_output=True, check=False)
-    with open(counts, "rb") as file:
-        return done.returncode, done.stdout, done.stderr, struct.unpack("=QQ", file.read())
+class Program:
+    """A program and the library before it."""
 
+    def __init__(self, path, folder, library):
+        self.path, self.counts = os.path.abspath(path), os.path.join(folder, "counts")
+        self.variables = {"LD_PRELOAD": library, "REFUSE_COUNTS": self.counts}
 
-def refuse(program, words, variables, counts, total):
-    """Refuses each allocation of a run in turn: a line for each end but one with status 7 and nothing printed."""
-    failures = []
-    for number in range(1, total + 1):
-        for on in ({}, {"REFUSE_ON": "1"}):
-            asked = variables | on | {"REFUSE": str(number)}
-            status, printed, errors, (_, refused) = run(program, words, asked, counts)
-            if status != 7 or printed or errors or not refused or not on and refused != 1:
-                failures.append(f"allocation {number}{' and on' if on else ''}: status {status}, {refused} refused, "
-                                f"printed {printed + errors!r}")
-    return failures
+    def run(self, words, text, asked):
+        """How a run ended: its status and what it printed on both outputs; and its numbers of allocations and refusals."""
+        with open(self.counts, "wb") as file:
+            file.write(bytes(16))
+        done = subprocess.run([self.path, *words], cwd=EXAMPLES, env=self.variables | asked, timeout=60, input=text,
+                              capture_output=True, check=False)
+        with open(self.counts, "rb") as file:
+            return (done.returncode, done.stdout, done.stderr), struct.unpack("=QQ", file.read())
+
+    def refuse(self, words, text, status, fits):
+        """Refuses each allocation of a run in turn. The number of them, how many runs ended as if nothing was refused, which is
+        right where lists are fitted, and a line for each failure."""
+        whole, (total, _) = self.run(words, text, {})
+        failures, without = [], 0
+        if whole[0] != status or not whole[1] or whole[2] or not total:
+            failures.append(f"nothing refused: {whole}, {total} allocations")
+        for number in range(1, total + 1):
+            for on in ({}, {"REFUSE_ON": "1"}):
+                end, (_, refused) = self.run(words, text, on | {"REFUSE": str(number)})
+                without += fits and end == whole
+                if end != (7, b"", b"") and not (fits and end == whole) or not refused or not on and refused != 1:
+                    failures.append(f"allocation {number}{' and on' if on else ''}: {refused} refused, {end}")
+        return total, without, failures
 
 
 def main():
     """Goes over the runs."""
-    program = os.path.abspath(os.environ.get("ALIGN", os.path.join(HERE, "../crates/align/out/align")))
-    if not os.access(program, os.X_OK):
-        sys.exit(f"no program {program}: build it first (rt ci), or name it in ALIGN")
-    failed, refused = 0, 0
+    align = os.environ.get("ALIGN", os.path.join(HERE, "../crates/align/out/align"))
+    for program in align, CERTIFICATE_CASES:
+        if not os.access(program, os.X_OK):
+            sys.exit(f"no program {program}: build it first (rt ci), or name align in ALIGN")
+    failed, runs = 0, 0
     with tempfile.TemporaryDirectory() as folder:
-        library, counts = os.path.join(folder, "refuse_allocation.so"), os.path.join(folder, "counts")
+        library = os.path.join(folder, "refuse_allocation.so")
         subprocess.run([os.environ.get("CC", "cc"), "-O2", "-Wall", "-shared", "-fPIC", "-o", library,
                         os.path.join(HERE, "refuse_allocation.c")], check=True)
-        variables = {"LD_PRELOAD": library}
-        for line, wanted in RUNS:
-            status, printed, errors, (total, _) = run(program, line.split(), variables, counts)
-            failures = refuse(program, line.split(), variables, counts, total)
-            if status != wanted or not printed or errors or not total:
-                failures.insert(0, f"nothing refused: status {status}, {total} allocations, "
-                                   f"printed {printed + errors!r}")
-            print(f"{'FAIL' if failures else 'ok  '} {line}: {total} allocations", *failures[:9], sep="\n     ")
-            failed, refused = failed + len(failures), refused + 2 * total
-    print(f"{refused // 2} allocations, each refused alone and with all behind it: {refused} runs, {failed} failures")
+        rows = [(align, line, b"", status, False) for line, status in RUNS]
+        rows += [(CERTIFICATE_CASES, task, text.encode(), 0, True) for task, text in CERTIFICATES]
+        for program, line, text, status, fits in rows:
+            total, without, failures = Program(program, folder, library).refuse(line.split(), text, status, fits)
+            told = f"{line} of {len(text)} bytes: {total} allocations, {without} runs without a refused one" if fits \
+                else f"{line}: {total} allocations"
+            print(f"{'FAIL' if failures else 'ok  '} {told}", *failures[:9], sep="\n     ")
+            failed, runs = failed + len(failures), runs + 2 * total
+    print(f"{runs // 2} allocations, each refused alone and with all behind it: {runs} runs, {failed} failures")
     sys.exit(1 if failed else 0)
 
 

@@ -34,6 +34,10 @@ pub front_all : {V : Type 0} (vs : List V) (rest : List ℕ) → with_front vs (
 unfolding with_front
 front_all {V = V} vs rest = ap (λ (t : List V). let z : List V × List ℕ = (t, rest) in Ok z) (append-nil vs)
 
+-- the list that was found, fitted, is what is read
+pub as_fitted : {V : Type 0} (q : Reading (List V)) (found fitted : List V) (rest : List ℕ) → fitted ≡ found → q ≡ Ok (found, rest) → q ≡ Ok (fitted, rest)
+as_fitted {V = V} q found fitted rest same e = subst (λ (vs : List V). q ≡ Ok (vs, rest)) (sym same) e
+
 before : (n : ℕ) → 0 < n → n ≡ suc (n - 1)
 before n h = omega arith
 

@@ -5,7 +5,7 @@ ghost use Rattle.text_codes.specs.Stops.{Gives, Tells};
 ghost use Rattle.certificate_file.specs.StepReading as reading;
 
 use crate::fields::{integer, long, word};
-use crate::listed::{Ended, Spelled};
+use crate::listed::{Ended, Spelled, fitted, push};
 use crate::product_lines::row;
 use clauses::Lit;
 use node_values::NodeId;
@@ -32,14 +32,14 @@ fn literal(text: &[u8]) -> Result<(Lit, &[u8]), &[u8]>
 fn literals(alloc: Global, text: &[u8]) -> Result<(Items<Lit>, &[u8]), Stop<'_>>
     ensures { Gives (λ x. (x.0, x.1.now)) result (reading.lits_at text.now) }
 {
-    let mut found = Items::new(alloc);
+    let mut found = Vec::new(alloc);
     let mut rest = text;
     loop {
         let (lit, after) = literal(rest)?;
         if lit.var == 0 {
-            return Ok((found, after));
+            return Ok((fitted(alloc, found)?, after));
         }
-        found.push(lit)?;
+        push(&mut found, lit)?;
         rest = after;
     }
 }
@@ -65,16 +65,16 @@ fn pair(text: &[u8]) -> Result<(((u32, u32), u8), &[u8]), &[u8]>
 fn pairs(alloc: Global, text: &[u8], end: u8) -> Result<(Items<(u32, u32)>, &[u8]), Stop<'_>>
     ensures { Gives (λ x. (x.0, x.1.now)) result (linked_at reading.pair_of_at (suc (length text.now)) end text.now) }
 {
-    let mut found = Items::new(alloc);
+    let mut found = Vec::new(alloc);
     let mut rest = text;
     let mut last = end;
     while last != b'\n' {
         let ((next, end), after) = pair(rest)?;
-        found.push(next)?;
+        push(&mut found, next)?;
         rest = after;
         last = end;
     }
-    Ok((found, rest))
+    Ok((fitted(alloc, found)?, rest))
 }
 
 /// The clauses of a chain.

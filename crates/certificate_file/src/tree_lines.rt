@@ -8,7 +8,7 @@ ghost use Rattle.certificate_file.specs.TreeReading as reading;
 
 use crate::certificate::Certificate;
 use crate::fields::{long, some_count, word};
-use crate::listed::{Spelled, times};
+use crate::listed::{Spelled, fitted, push, times};
 use crate::product_lines::{lines, node};
 use duty_claims::Relation;
 use product_automaton::{PNode, Product};
@@ -131,32 +131,32 @@ fn trees(
 ) -> Result<(Items<Tree>, &[u8]), Stop<'_>>
     ensures { Gives (λ x. (x.0, x.1.now)) result (times_at (reading.tree_at depth) count text.now) }
 {
-    let mut found = Items::new(alloc);
+    let mut found = Vec::new(alloc);
     let mut rest = text;
     let mut left = count;
     while left > 0 {
         let (tree, after) = tree(alloc, rest, depth)?;
-        found.push(tree)?;
+        push(&mut found, tree)?;
         rest = after;
         left -= 1;
     }
-    Ok((found, rest))
+    Ok((fitted(alloc, found)?, rest))
 }
 
 /// So many nodes, numbered from 0.
 fn nodes_of(alloc: Global, count: u64, text: &[u8]) -> Result<(Items<PNode>, &[u8]), Stop<'_>>
     ensures { Gives (λ x. (x.0, x.1.now)) result (numbered_at node_at 0 count text.now) }
 {
-    let mut found = Items::new(alloc);
+    let mut found = Vec::new(alloc);
     let mut rest = text;
     let mut number = 0;
     while number < count {
         let (node, after) = node(alloc, rest, number)?;
-        found.push(node)?;
+        push(&mut found, node)?;
         rest = after;
         number += 1;
     }
-    Ok((found, rest))
+    Ok((fitted(alloc, found)?, rest))
 }
 
 /// The nodes of a product.

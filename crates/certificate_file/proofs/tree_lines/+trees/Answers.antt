@@ -1,7 +1,7 @@
 use Rattle.std.proofs.Common.{◌-◌, ap, sym, ◌∙◌}
 use Rattle.text_codes.specs.Readers.{times_at}
 use Rattle.certificate_file.specs.TreeReading.{tree_at}
-use Rattle.certificate_file.proofs.Fronts.{with_front, front_none, times_more, times_fails, times_done, stops_whole, gives_same}
+use Rattle.certificate_file.proofs.Fronts.{with_front, front_none, times_more, times_fails, times_done, stops_whole, gives_same, as_fitted}
 use Rattle.certificate_file.proofs.SplitReading.{split_ok, split_stops, tree_split}
 use Rattle.certificate_file.proofs.tree_lines.+trees.Goals as goal
 
@@ -22,18 +22,20 @@ tree-returns-then-depth-gt0 t c =
     gives_same _ c.split.result _ _ (tree_split c.args.depth c.args.text.now u e d) s
 
 pub trees-loop-left-init : goal.trees-loop-left-init
-trees-loop-left-init t c = ap (λ vs. with_front vs (times_at (tree_at c.args.depth) c.args.count c.args.text.now)) c.new-found.ensures ∙ front_none _
+trees-loop-left-init t c = ap (λ vs. with_front vs (times_at (tree_at c.args.depth) c.args.count c.args.text.now)) c.new-found.ensures.items ∙ front_none _
 
 pub trees-returns-in_err-tree : goal.trees-returns-in_err-tree
 trees-returns-in_err-tree t c =
     stops_whole _ _ c.in_err-tree.field-0.0 _ _ c.from_residual.ensures.1 c.in_err-tree.ensures
-    (λ left e. sym c.loop-left.invariant ∙ times_fails (tree_at c.args.depth) c.loop-left.found c.loop-left.left c.loop-left.rest.now left c.loop-left-test.true e)
+    (λ left e. sym c.loop-left.invariant ∙ times_fails (tree_at c.args.depth) c.loop-left.found.items c.loop-left.left c.loop-left.rest.now left c.loop-left-test.true e)
 
 pub trees-loop-left-preserved : goal.trees-loop-left-preserved
 trees-loop-left-preserved t c =
-    ap (λ vs. with_front vs (times_at (tree_at c.args.depth) (c.loop-left.left - 1) c.in_ok-tree.after.now)) c.in_ok-push.ensures.ok
-    ∙ (sym (times_more (tree_at c.args.depth) c.loop-left.found c.loop-left.left c.loop-left.rest.now c.in_ok-tree.after.now c.in_ok-tree.tree c.loop-left-test.true c.in_ok-tree.ensures)
+    ap (λ vs. with_front vs (times_at (tree_at c.args.depth) (c.loop-left.left - 1) c.in_ok-tree.after.now)) c.in_ok-push.ensures
+    ∙ (sym (times_more (tree_at c.args.depth) c.loop-left.found.items c.loop-left.left c.loop-left.rest.now c.in_ok-tree.after.now c.in_ok-tree.tree c.loop-left-test.true c.in_ok-tree.ensures)
     ∙ c.loop-left.invariant)
 
 pub trees-returns : goal.trees-returns
-trees-returns t c = sym c.loop-left.invariant ∙ times_done (tree_at c.args.depth) c.loop-left.found c.loop-left.left c.loop-left.rest.now c.loop-left-test.false
+trees-returns t c =
+    as_fitted _ _ c.in_ok-fitted.field-0 _ c.in_ok-fitted.ensures
+    (sym c.loop-left.invariant ∙ times_done (tree_at c.args.depth) c.loop-left.found.items c.loop-left.left c.loop-left.rest.now c.loop-left-test.false)

@@ -15,7 +15,7 @@ decreases-trees l = 3 * l.depth + 1
 
 -- what was found, before what is read of the rest, is what is read of the whole
 abbrev pub invariant-trees-loop-left : goal.invariant-trees-loop-left
-invariant-trees-loop-left l = with_front l.found (times_at (tree_at l.depth) l.left l.rest) ≡ times_at (tree_at l.fn.depth) l.fn.count l.fn.text
+invariant-trees-loop-left l = with_front l.found.items (times_at (tree_at l.depth) l.left l.rest) ≡ times_at (tree_at l.fn.depth) l.fn.count l.fn.text
 
 abbrev pub decreases-trees-loop-left : goal.decreases-trees-loop-left
 decreases-trees-loop-left l = l.left
