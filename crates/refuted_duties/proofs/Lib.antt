@@ -1,0 +1,4 @@
+pub mod Elements
+pub mod Inside
+pub mod Bytes
+pub mod Grounds
