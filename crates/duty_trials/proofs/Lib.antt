@@ -1,0 +1,4 @@
+pub mod Elements
+pub mod Growing
+pub mod NeededBytes
+pub mod Values

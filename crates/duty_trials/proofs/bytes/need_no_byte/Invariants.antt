@@ -1,0 +1,8 @@
+use Rattle.std.proofs.Common.{◌≡◌, ℕ, ◌<◌, true, false}
+use Rattle.node_values.specs.Sheets.{node_at}
+use Rattle.node_reach.specs.Reached.{is_marked}
+use Rattle.duty_claims.specs.Needs.{is_start}
+use Rattle.duty_trials.proofs.bytes.need_no_byte.Given as goal
+
+abbrev pub invariant-loop-i : goal.invariant-loop-i
+invariant-loop-i l = (k : ℕ) → k < l.i → is_start (node_at l.built.sheet k) ≡ true → is_marked l.marks.items k ≡ false
