@@ -6,9 +6,8 @@
 Twelve runs of `align`: ten of decide, run and show over files of examples/, one whose file is refused, and one whose
 arguments are no command; and four of `certificate_cases`, which read two certificates and write them again. Each is run
 once as it is, and its allocations are counted. Then, for each number n up to that count, it is run with the n-th call of
-malloc, calloc or realloc refused, and again with the n-th and all behind it. A smaller block that is refused may be done
-without (a list is fitted to its length, where it can be): then the run has to end as it does with nothing refused. The
-library of tests/refuse_allocation.c, which $CC (cc) compiles, refuses them. The variable ALIGN names the program align.
+malloc, calloc or realloc refused, and again with the n-th and all behind it. The library of tests/refuse_allocation.c,
+which $CC (cc) compiles, refuses them. The variable ALIGN names the program `align`.
 """
 import os
 import struct
@@ -49,20 +48,19 @@ class Program:
         with open(self.counts, "rb") as file:
             return (done.returncode, done.stdout, done.stderr), struct.unpack("=QQ", file.read())
 
-    def refuse(self, words, text, status, fits):
-        """Refuses each allocation of a run in turn. The number of them, how many runs ended as if nothing was refused, which is
-        right where lists are fitted, and a line for each failure."""
-        whole, (total, _) = self.run(words, text, {})
-        failures, without = [], 0
-        if whole[0] != status or not whole[1] or whole[2] or not total:
-            failures.append(f"nothing refused: {whole}, {total} allocations")
+    def refuse(self, words, text, wanted):
+        """Refuses each allocation of a run in turn. The number of them, and a line for each end but one with status 7 and nothing
+        printed, or for another status than this with none refused."""
+        (status, printed, errors), (total, _) = self.run(words, text, {})
+        failures = []
+        if status != wanted or not printed or errors or not total:
+            failures.append(f"nothing refused: status {status}, {total} allocations, printed {printed + errors!r}")
         for number in range(1, total + 1):
             for on in ({}, {"REFUSE_ON": "1"}):
                 end, (_, refused) = self.run(words, text, on | {"REFUSE": str(number)})
-                without += fits and end == whole
-                if end != (7, b"", b"") and not (fits and end == whole) or not refused or not on and refused != 1:
+                if end != (7, b"", b"") or not refused or not on and refused != 1:
                     failures.append(f"allocation {number}{' and on' if on else ''}: {refused} refused, {end}")
-        return total, without, failures
+        return total, failures
 
 
 def main():
@@ -76,13 +74,12 @@ def main():
         library = os.path.join(folder, "refuse_allocation.so")
         subprocess.run([os.environ.get("CC", "cc"), "-O2", "-Wall", "-shared", "-fPIC", "-o", library,
                         os.path.join(HERE, "refuse_allocation.c")], check=True)
-        rows = [(align, line, b"", status, False) for line, status in RUNS]
-        rows += [(CERTIFICATE_CASES, task, text.encode(), 0, True) for task, text in CERTIFICATES]
-        for program, line, text, status, fits in rows:
-            total, without, failures = Program(program, folder, library).refuse(line.split(), text, status, fits)
-            told = f"{line} of {len(text)} bytes: {total} allocations, {without} runs without a refused one" if fits \
-                else f"{line}: {total} allocations"
-            print(f"{'FAIL' if failures else 'ok  '} {told}", *failures[:9], sep="\n     ")
+        rows = [(align, line, b"", status) for line, status in RUNS]
+        rows += [(CERTIFICATE_CASES, task, text.encode(), 0) for task, text in CERTIFICATES]
+        for program, line, text, status in rows:
+            total, failures = Program(program, folder, library).refuse(line.split(), text, status)
+            told = f"{line}, of a certificate of {len(text)} bytes" if text else line
+            print(f"{'FAIL' if failures else 'ok  '} {told}: {total} allocations", *failures[:9], sep="\n     ")
             failed, runs = failed + len(failures), runs + 2 * total
     print(f"{runs // 2} allocations, each refused alone and with all behind it: {runs} runs, {failed} failures")
     sys.exit(1 if failed else 0)
