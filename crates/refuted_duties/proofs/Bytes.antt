@@ -21,7 +21,7 @@ use Rattle.refuted_duties.proofs.Elements.{all_append, all_passing}
 use Rattle.refuted_duties.proofs.Inside.{named_inside, needed_inside}
 use Rattle.resolution_chains.proofs.Marking.{none_some, some_same}
 use Rattle.refutation_rules.proofs.Lookups.{any_item, map_step}
-use Rattle.refuted_duties.specs.Refuted.{is_pair_of, scratch_node}
+use Rattle.refutation_rules.specs.Pairs.{is_pair_of, scratch_node}
 
 -- a byte of memory has its address as an argument
 byte_needs : (test : ℕ → Bool) (n : Node) → is_start n ≡ true → test (address_of n) ≡ true → list_any test (arguments n) ≡ true

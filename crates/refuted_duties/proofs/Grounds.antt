@@ -2,9 +2,11 @@
 -- first step holds, so no steps are accepted.
 use Rattle.std.proofs.Common.{◌≡◌, ◌⊎◌, ℕ, zero, suc, ◌^◌, ◌<◌, ◌≤◌, ◌==◌, ◌&&◌, Bool, true, false, List, [], ◌∷◌, ◌++◌, Option, Some, None, length, refl, sym, ◌∙◌, ap, subst, inl, inr, arith}
 use Rattle.std.specs.Prelude.{IsTrue, slice_index}
-use Rattle.std.specs.List.{AllByRecursion, flat_map, list_any}
+use Rattle.std.specs.List.{AllByRecursion, flat_map, list_any, range_with_len}
+use Rattle.std.specs.Option.{option_or}
 use Rattle.std.proofs.lemmas.Bool.{and_from, and_parts, both_ways, cases_Bool, eqb-true, or_right}
 use Rattle.std.proofs.lemmas.List.Folds.{list_any-append}
+use Rattle.std.proofs.lemmas.List.FromFn.{get_or-map-range_with_len}
 use Rattle.insn_semantics.specs.Words as words
 use Rattle.insn_semantics.proofs.WordLaws.{power_grows}
 use Rattle.clauses.specs.Assignments.{IsClause, MeetsAll}
@@ -34,16 +36,25 @@ use Rattle.refutations.specs.declared.step.Step.{Step}
 use Rattle.refutation_rules.specs.declared.equation.Equation.{Equation}
 use Rattle.refutation_rules.specs.Holding.{IsByte, IsHeld, IsTrueEquation, Reads}
 use Rattle.refutation_rules.specs.Operators.{equation_in}
+use Rattle.refutation_rules.specs.Pairs.{scratch_node}
 use Rattle.refutation_rules.proofs.Bits.{bit_at, normal_ordered}
 use Rattle.refutation_rules.proofs.Operators.{address_by_place, is_equality}
 use Rattle.refutation_rules.proofs.Steps.{none_accepted}
-use Rattle.refuted_duties.specs.Refuted.{AreAcceptedFor, equality_among, ground_of, known_at_first, scratch_node}
+use Rattle.refuted_duties.specs.Refuted.{AreAcceptedFor, equality_among, equality_if, first_variables, ground_of, known_at_first}
 use Rattle.refuted_duties.proofs.Bytes.{IsFound, bytes_named, found, pairs_are, scratch_facts}
 
 -- the clauses of a duty are clauses
 clauses_ordered : (d : Duty) → AllByRecursion IsClause (duty_clauses d)
 unfolding duty_clauses
 clauses_ordered d = normal_ordered (reach_rows d ++ (pair_rows d ++ (hypothesis_units d ++ negated_goals d)))
+
+first_or : {A : Type 0} (o p : Option A) (x : A) → option_or o p ≡ Some x → (o ≡ Some x) ⊎ (p ≡ Some x)
+first_or None p x h = inr h
+first_or (Some y) p x h = inl h
+
+-- the variable of a node's lowest bit
+first_is : (d : Duty) (i : ℕ) → i < length d.sheet.now → slice_index (first_variables d) i ≡ first_variable d i
+first_is d i b = get_or-map-range_with_len (first_variable d) 0 (length d.sheet.now) i i 0 b (omega arith)
 
 module _ (d : Duty) (sheet : IsSheet d.sheet.now) (whole : IsWhole d) where
   reach_inside : (i : ℕ) → IsTrue (is_in_reach d i) → i < length d.sheet.now
@@ -66,15 +77,14 @@ module _ (d : Duty) (sheet : IsSheet d.sheet.now) (whole : IsWhole d) where
         sym (bit_at v (first_variable d i))
         ∙ subst (λ (n : ℕ). word_value v n (first_variable d i) ≡ value_at e d.sheet.now i) w (is.reads i h)
 
-    equality_holds : (x n : ℕ) (p : Equation) → n ≤ length d.sheet.now → equality_among d x n ≡ Some p → v x ≡ true → IsTrueEquation e d.sheet.now p
-    equality_holds x zero p b h one = absurd (none_some p h)
-    equality_holds x (suc n) p b h one = elim (cases_Bool (is_in_reach d n && (first_variable d n == x))) [
-      | inr f ↦ let rest : equality_among d x n ≡ Some p = rw f at h in equality_holds x n p (omega arith) rest one
+    -- what is found to be the equality whose bit a variable is holds where the bit is 1
+    node_holds : (x n : ℕ) (p : Equation) → n < length d.sheet.now → equality_if d x n ≡ Some p → v x ≡ true → IsTrueEquation e d.sheet.now p
+    node_holds x n p inside h one = elim (cases_Bool (is_in_reach d n && (first_variable d n == x))) [
+      | inr f ↦ let none : None ≡ Some p = rw f at h in absurd (none_some p none)
       | inl t ↦
           let both = and_parts (is_in_reach d n) (first_variable d n == x) t in
           let some : equation_in (node_at d.sheet.now n) ≡ Some p = rw t at h in
           let node : node_at d.sheet.now n ≡ Eq p.left p.right = is_equality (node_at d.sheet.now n) p some in
-          let inside : n < length d.sheet.now = omega arith in
           let alike : IsNode (width_at d.sheet.now) n (Eq p.left p.right) = subst (IsNode (width_at d.sheet.now) n) node (sheet n inside) in
           let width : width_at d.sheet.now n ≡ 1 = width_at-is d.sheet.now sheet n inside ∙ ap (node_width (width_at d.sheet.now)) node in
           let value : value_at e d.sheet.now n ≡ words.equal (value_at e d.sheet.now p.left.0) (value_at e d.sheet.now p.right.0) =
@@ -90,8 +100,15 @@ module _ (d : Duty) (sheet : IsSheet d.sheet.now) (whole : IsWhole d) where
           }
     ]
 
+    equality_holds : (x n : ℕ) (p : Equation) → n ≤ length d.sheet.now → equality_among d x n ≡ Some p → v x ≡ true → IsTrueEquation e d.sheet.now p
+    equality_holds x zero p b h one = absurd (none_some p h)
+    equality_holds x (suc n) p b h one = elim (first_or (equality_if d x n) (equality_among d x n) p h) [
+      | inl here ↦ node_holds x n p (omega arith) here one
+      | inr there ↦ equality_holds x n p (omega arith) there one
+    ]
+
     scratch_holds : (i j at : ℕ) → IsByte (ground_of d) i → IsByte (ground_of d) j → scratch_node d.pairs.now i j ≡ Some at
-        → v (first_variable d at) ≡ false
+        → v (slice_index (first_variables d) at) ≡ false
         → value_at e d.sheet.now (address_of (node_at d.sheet.now i)) ≡ value_at e d.sheet.now (address_of (node_at d.sheet.now j))
         → HasOneByteAt e (value_at e d.sheet.now (address_of (node_at d.sheet.now i)))
     scratch_holds i j at a b h off same =
@@ -109,7 +126,7 @@ module _ (d : Duty) (sheet : IsSheet d.sheet.now) (whole : IsWhole d) where
         list_any-append (λ n. is_needed_by d.sheet.now at n.0) (named_nodes d) (flat_map pair_nodes (needed_pairs d))
         ∙ or_right (is_needed d.sheet.now (named_nodes d) at) (list_any (λ n. is_needed_by d.sheet.now at n.0) (flat_map pair_nodes (needed_pairs d))) (f.reach needed) in
         let node_zero : value_at e d.sheet.now f.node.0 ≡ 0 =
-        ap (value_at e d.sheet.now) f.is ∙ sym (bit_is at reach (sym (ap (width_at d.sheet.now) f.is) ∙ lines.is.1)) ∙ ap words.bit off in
+        ap (value_at e d.sheet.now) f.is ∙ sym (bit_is at reach (sym (ap (width_at d.sheet.now) f.is) ∙ lines.is.1)) ∙ ap words.bit (ap v (sym (first_is d at (reach_inside at reach))) ∙ off) in
         let inside_i : address_of (node_at d.sheet.now i) < length d.sheet.now = address_inside i (reach_inside i a.0) a.1 in
         let address_small : value_at e d.sheet.now (address_of (node_at d.sheet.now i)) < 2 ^ 64 =
         small (value_at e d.sheet.now (address_of (node_at d.sheet.now i))) (width_at d.sheet.now (address_of (node_at d.sheet.now i)))
@@ -130,7 +147,7 @@ module _ (d : Duty) (sheet : IsSheet d.sheet.now) (whole : IsWhole d) where
     ground_read = record {
       sheet = sheet;
       inside = reach_inside;
-      words = is.reads;
+      words = λ i h. subst (λ (x : ℕ). word_value v (width_at d.sheet.now i) x ≡ value_at e d.sheet.now i) (sym (first_is d i (reach_inside i h))) (is.reads i h);
       equalities = λ x p h one. equality_holds x (length d.sheet.now) p (omega arith) h one;
       scratch = scratch_holds;
     }

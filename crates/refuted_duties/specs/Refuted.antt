@@ -1,9 +1,9 @@
 -- When steps are accepted for a duty, and else which one breaks.
-use Rattle.std.specs.Prelude.{◌≡◌, ℕ, zero, suc, ◌==◌, ◌&&◌, ◌||◌, Bool, false, List, [], ◌∷◌, Option, Some, None, length, if◌then◌else◌}
-use Rattle.std.specs.Option.{option_map}
+use Rattle.std.specs.Prelude.{ℕ, zero, suc, ◌==◌, ◌&&◌, false, List, [], Option, None, length, map, slice_index, if◌then◌else◌}
+use Rattle.std.specs.List.{range_with_len}
+use Rattle.std.specs.Option.{option_or}
 use Rattle.node_values.specs.Sheets.{node_at}
 use Rattle.duty_claims.specs.declared.duty.Duty.{Duty}
-use Rattle.duty_claims.specs.declared.duty.StartPair.{StartPair}
 use Rattle.clause_rows.specs.DutyClauses.{duty_clauses}
 use Rattle.clause_rows.specs.Numbering.{first_variable}
 use Rattle.clause_rows.specs.Reach.{is_in_reach}
@@ -12,28 +12,27 @@ use Rattle.refutation_rules.specs.declared.equation.Equation.{Equation}
 use Rattle.refutation_rules.specs.Judging.{AreAccepted, BreakAt}
 use Rattle.refutation_rules.specs.Known.{Ground, Known}
 use Rattle.refutation_rules.specs.Operators.{equation_in}
+use Rattle.refutation_rules.specs.Pairs.{scratch_node}
+
+-- the arguments of node n, where it is an equality of the reach whose bit is this variable
+abbrev pub equality_if : Duty → ℕ → ℕ → Option Equation
+equality_if d x n = if is_in_reach d n && (first_variable d n == x) then equation_in (node_at d.sheet.now n) else None
 
 -- the arguments of the equality of the reach, among the first n nodes, whose bit is this variable
 abbrev pub equality_among : Duty → ℕ → ℕ → Option Equation
 equality_among d x zero = None
-equality_among d x (suc n) =
-    if is_in_reach d n && (first_variable d n == x) then equation_in (node_at d.sheet.now n) else equality_among d x n
+equality_among d x (suc n) = option_or (equality_if d x n) (equality_among d x n)
 
--- whether a pair is of these two bytes, in either order
-abbrev pub is_pair_of : ℕ → ℕ → StartPair → Bool
-is_pair_of i j p = (p.m.0 == i && p.n.0 == j) || (p.m.0 == j && p.n.0 == i)
-
--- the node that a scratch line has the address of two bytes, where their pair has one
-abbrev pub scratch_node : List StartPair → ℕ → ℕ → Option ℕ
-scratch_node [] i j = None
-scratch_node (p ∷ ps) i j = if is_pair_of i j p then option_map (λ node. node.0) p.scratch else scratch_node ps i j
+-- the variable of the lowest bit of each node, by its number
+abbrev pub first_variables : Duty → List ℕ
+first_variables d = map (first_variable d) (range_with_len 0 (length d.sheet.now))
 
 -- what steps for a duty are judged by
 abbrev pub ground_of : Duty → Ground
 ground_of d = record {
   nodes = d.sheet.now;
   is_in_reach = is_in_reach d;
-  first = first_variable d;
+  first = slice_index (first_variables d);
   equality_at = λ x. equality_among d x (length d.sheet.now);
   scratch_of = scratch_node d.pairs.now;
 }
