@@ -17,8 +17,8 @@ use Rattle.duty_claims.specs.Needs.{Needs, address_of, each_two, is_needed_by, i
 use Rattle.duty_claims.specs.Whole.{IsInLines, IsWhole, IsWholePair, NeedsOnlyOf}
 use Rattle.duty_claims.proofs.Needs.{needed-is, needs_go_on, needs_itself}
 use Rattle.clause_rows.specs.Reach.{is_in_reach, is_pair_needed, if_there, named_nodes, needed_pairs, pair_nodes, reach_roots}
-use Rattle.refuted_duties.proofs.Elements.{all_append, all_passing}
-use Rattle.refuted_duties.proofs.Inside.{named_inside, needed_inside}
+use Rattle.clause_rows.proofs.Elements.{all_append, all_passing}
+use Rattle.clause_rows.proofs.Inside.{named_inside, needed_inside}
 use Rattle.resolution_chains.proofs.Marking.{none_some, some_same}
 use Rattle.refutation_rules.proofs.Lookups.{any_item, map_step}
 use Rattle.refutation_rules.specs.Pairs.{is_pair_of, scratch_node}

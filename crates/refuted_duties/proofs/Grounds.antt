@@ -30,7 +30,7 @@ use Rattle.clause_rows.specs.DutyClauses.{duty_clauses, hypothesis_units, negate
 use Rattle.clause_rows.specs.Numbering.{first_variable}
 use Rattle.clause_rows.specs.Reach.{is_in_reach, is_pair_needed, named_nodes, needed_pairs, pair_nodes, reach_roots}
 use Rattle.clause_rows.specs.Readings.{HasAssignments, IsAssignmentOf}
-use Rattle.refuted_duties.proofs.Inside.{needed_inside, roots_inside}
+use Rattle.clause_rows.proofs.Inside.{needed_inside, roots_inside}
 use Rattle.resolution_chains.proofs.Marking.{none_some}
 use Rattle.refutations.specs.declared.step.Step.{Step}
 use Rattle.refutation_rules.specs.declared.equation.Equation.{Equation}

@@ -1,4 +1,2 @@
-pub mod Elements
-pub mod Inside
 pub mod Bytes
 pub mod Grounds
