@@ -44,7 +44,7 @@ wanted=$(find "$clone"/crates/*/must-fail -name '*.edit' | wc -l)
 status=$?
 refused=$(grep -c 'must-fail .*: refused, as it must be' "$log")
 # an edit that was not refused, that could not be tried, or whose refusal says less of a contract
-grep 'must-fail' "$log" | grep -v -e ': refused, as it must be$' -e 'trying its must-fail' -e 'were tried by an earlier run' | cut -c 1-300
+grep 'must-fail' "$log" | grep -v -e ': refused, as it must be$' -e ': refused, as it must be: ' -e 'trying its must-fail' -e 'were tried by an earlier run' | cut -c 1-300
 tail -n 1 "$log"
 echo "$refused of $wanted wrong edits of $# crates refused"
 [ -z "$keep" ] || echo "the clone and its log: $work"
